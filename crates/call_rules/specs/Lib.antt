@@ -1,0 +1,4 @@
+pub mod Caller
+pub mod Entry
+pub mod Packet
+pub mod Worker
