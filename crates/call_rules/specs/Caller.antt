@@ -1,6 +1,6 @@
 -- The rules of a caller: for its state and a start, a packet or a tick, the new state and the act.
 -- A result acknowledges its call, after Birrell and Nelson's RPC; the states are this project's own.
-use Rattle.std.specs.Prelude.{ℕ, ◌-◌, ◌/◌, Option, Some, None, Bool, true, false, not, ◌==◌, ◌&&◌, if◌then◌else◌}
+use Rattle.std.specs.Prelude.{ℕ, ◌-◌, ◌/◌, Option, Some, Bool, true, false, not, ◌==◌, ◌&&◌, if◌then◌else◌}
 use Rattle.rpc_header.specs.declared.Activity.{Activity}
 use Rattle.rpc_header.specs.declared.Export.{Export}
 use Rattle.rpc_header.specs.declared.Kind.{Kind}

@@ -2,7 +2,7 @@
 -- state, the new entry, what it did, and the run that began or ended.
 -- A body runs only for a number greater than the entry's, after Birrell and Nelson's RPC; the states are
 -- this project's own.
-use Rattle.std.specs.Prelude.{ℕ, List, length, take, Option, Some, None, Bool, true, false, not, nat_le, if◌then◌else◌}
+use Rattle.std.specs.Prelude.{ℕ, List, length, take, Option, Some, None, Bool, not, nat_le, if◌then◌else◌}
 use Rattle.rpc_header.specs.declared.Kind.{Kind}
 use Rattle.rpc_header.specs.declared.Kind.TheVariants as kind
 use Rattle.call_rules.specs.Packet.{Call, Fields, Packet, piece_size}

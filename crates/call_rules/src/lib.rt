@@ -12,5 +12,4 @@ ghost use Rattle.call_rules.specs.Entry.{Word, judge, Admit, IsEmpty};
 /// A packet is admitted only where the entry is empty or the packet's number is greater than the entry's.
 pub fn admits_only_a_greater_number()
     ensures { (w : Word) (h : Fields) → judge w h ≡ Admit → (w.phase ≡ IsEmpty) ⊎ (w.number < h.call.number) }
-{
-}
+{}

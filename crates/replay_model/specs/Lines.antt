@@ -1,0 +1,155 @@
+-- The lines that are printed of what happens.
+use Rattle.std.specs.Prelude.{ℕ, zero, suc, ◌+◌, ◌*◌, ◌/◌, ◌%◌, List, [], ◌∷◌, ◌++◌, length, Bool, true, false, nat_le, if◌then◌else◌, codes}
+use Rattle.std.specs.List.{flat_map}
+use Rattle.std.specs.Fmt.{decimal, digit_glyph}
+use Rattle.lane_checksum.specs.PlainSum.{csum}
+use Rattle.rpc_header.specs.declared.Activity.{Activity}
+use Rattle.rpc_header.specs.declared.Kind.{Kind}
+use Rattle.rpc_header.specs.declared.Kind.TheVariants as kind
+use Rattle.call_rules.specs.Packet.{Call, Fields, Packet}
+use Rattle.call_rules.specs.Worker.{Run, Did, Unfit}
+use Rattle.call_rules.specs.Worker as worker
+use Rattle.replay_model.specs.Record.{Act, Counts, Discard}
+use Rattle.replay_model.specs.Record as act
+
+abbrev pub blank : List ℕ
+blank = 32 ∷ []
+
+abbrev pub newline : List ℕ
+newline = 10 ∷ []
+
+-- M.P
+abbrev pub activity_text : Activity → List ℕ
+activity_text a = decimal a.machine ++ codes "." ++ decimal a.process
+
+-- M.P N
+abbrev pub call_text : Call → List ℕ
+call_text c = activity_text c.activity ++ blank ++ decimal c.number
+
+-- one digit of a number below 16
+abbrev pub nibble : ℕ → ℕ
+nibble n = digit_glyph false n
+
+abbrev pub hex_byte : ℕ → List ℕ
+hex_byte b = nibble (b / 16) ∷ nibble (b % 16) ∷ []
+
+abbrev pub hex : List ℕ → List ℕ
+hex bytes = flat_map hex_byte bytes
+
+-- the most bytes that are printed one by one
+abbrev pub most_shown : ℕ
+most_shown = 16
+
+-- a length, and the bytes in hexadecimal where there are few, else the four digits of their sum
+unfoldable pub bytes_text : List ℕ → List ℕ
+bytes_text bytes =
+    decimal (length bytes) ++ codes ":"
+    ++ (if nat_le (length bytes) most_shown then hex bytes else codes "#" ++ hex_byte (csum bytes / 256) ++ hex_byte (csum bytes % 256))
+
+-- the first two bytes, with zeros behind a shorter text
+abbrev pub exception_number : List ℕ → ℕ
+exception_number [] = 0
+exception_number (high ∷ []) = 256 * high
+exception_number (high ∷ low ∷ rest) = 256 * high + low
+
+abbrev pub kind_text : Kind → List ℕ
+kind_text kind.Call = codes "call"
+kind_text kind.Result = codes "result"
+kind_text kind.Ack = codes "ack"
+kind_text kind.Probe = codes "probe"
+kind_text kind.Reject = codes "reject"
+kind_text kind.Signal = codes "signal"
+kind_text kind.Bind = codes "bind"
+kind_text kind.Bound = codes "bound"
+
+abbrev pub flags_text : Fields → List ℕ
+flags_text h = (if h.please_ack then codes "a" else codes "-") ++ (if h.last then codes "l" else codes "-")
+
+-- K FROM>TO KIND N/FRAGMENT FLAGS LENGTH
+abbrev pub packet_text : ℕ → Packet → List ℕ
+packet_text k p =
+    decimal k ++ blank ++ decimal p.from ++ codes ">" ++ decimal p.to ++ blank ++ kind_text p.header.kind ++ blank
+    ++ decimal p.header.call.number ++ codes "/" ++ decimal p.header.fragment ++ blank ++ flags_text p.header ++ blank
+    ++ decimal (length p.payload)
+
+-- a procedure by its name, where the test service has it
+abbrev pub procedure_text : ℕ → List ℕ
+procedure_text zero = codes "null"
+procedure_text (suc n) = decimal (suc n)
+
+-- a signal by its number behind a mark
+abbrev pub reply_text : Bool → List ℕ → List ℕ
+reply_text false reply = bytes_text reply
+reply_text true reply = codes "!" ++ decimal (exception_number reply)
+
+-- A N PROCEDURE BYTES -> REPLY
+abbrev pub run_text : Run → List ℕ
+run_text r =
+    call_text r.call ++ blank ++ procedure_text r.procedure ++ blank ++ bytes_text r.arguments ++ codes " -> "
+    ++ reply_text r.signal r.reply
+
+abbrev pub run_line : ℕ → Run → List ℕ
+run_line i r = codes "run " ++ decimal i ++ blank ++ run_text r ++ newline
+
+-- the runs from number i on
+abbrev pub run_lines : ℕ → List Run → List ℕ
+run_lines i [] = []
+run_lines i (r ∷ rs) = run_line i r ++ run_lines (i + 1) rs
+
+abbrev pub journal_lines : List Run → List ℕ
+journal_lines [] = codes "journal empty" ++ newline
+journal_lines (r ∷ rs) = run_lines 1 (r ∷ rs)
+
+abbrev pub end_line : Counts → List ℕ
+end_line c =
+    codes "end runs " ++ decimal c.runs ++ codes " returned " ++ decimal c.returned ++ codes " signalled "
+    ++ decimal c.signalled ++ codes " failed " ++ decimal c.failed ++ codes " refused " ++ decimal c.refused ++ newline
+
+abbrev pub unfit_text : Unfit → List ℕ
+unfit_text worker.Older = codes "Older"
+unfit_text worker.Same = codes "Same"
+unfit_text worker.Busy = codes "Busy"
+unfit_text worker.Unknown = codes "Unknown"
+unfit_text worker.Skipped = codes "Skipped"
+unfit_text worker.Lost = codes "Lost"
+unfit_text worker.Full = codes "Full"
+unfit_text worker.NoBuffer = codes "NoBuffer"
+unfit_text worker.BadName = codes "BadName"
+
+-- VERB N, or why the packet is dropped
+abbrev pub did_text : ℕ → Did → List ℕ
+did_text n worker.Claims = codes "claims " ++ decimal n
+did_text n worker.Admits = codes "admits " ++ decimal n
+did_text n worker.Runs = codes "runs " ++ decimal n
+did_text n worker.Replies = codes "replies " ++ decimal n
+did_text n (worker.Drops why) = codes "drops " ++ unfit_text why
+
+abbrev pub discard_text : Discard → List ℕ
+discard_text act.NoRoom = codes "NoRoom"
+discard_text act.NoCell = codes "NoCell"
+discard_text act.Stale = codes "Stale"
+discard_text act.Unused = codes "Unused"
+
+abbrev pub return_line : Call → Bool → List ℕ → List ℕ
+return_line call false reply = codes "returned " ++ call_text call ++ blank ++ bytes_text reply ++ newline
+return_line call true reply = codes "signalled " ++ call_text call ++ blank ++ decimal (exception_number reply) ++ newline
+
+-- the lines of one thing that happens
+abbrev pub lines_of_act : Act → List ℕ
+lines_of_act act.Impossible = codes "impossible" ++ newline
+lines_of_act (act.Starts s) = codes "start " ++ call_text s.call ++ newline
+lines_of_act (act.TooFast a number second) = codes "nostart TooFast " ++ decimal number ++ blank ++ decimal second ++ newline
+lines_of_act (act.Sends k p) = codes "packet " ++ packet_text k p ++ newline
+lines_of_act (act.Readies k) = codes "ready " ++ decimal k ++ newline
+lines_of_act (act.Hears a k) = []
+lines_of_act (act.Returns r) = return_line r.call r.signal r.reply
+lines_of_act (act.Discards why) = codes "drop " ++ discard_text why ++ newline
+lines_of_act (act.Rests number) = codes "worker " ++ decimal number ++ codes " idle" ++ newline
+lines_of_act (act.Works number n did) = codes "worker " ++ decimal number ++ blank ++ did_text n did ++ newline
+lines_of_act (act.HasRun run) = []
+lines_of_act (act.ListsRuns runs) = journal_lines runs
+lines_of_act (act.Ends counts) = end_line counts
+
+abbrev pub lines_of : List Act → List ℕ
+lines_of [] = []
+lines_of (a ∷ acts) = lines_of_act a ++ lines_of acts

@@ -1,0 +1,137 @@
+-- The world: a second, a server, eight clients, every packet that was sent, and the records.
+use Rattle.std.specs.Prelude.{ℕ, ◌+◌, ◌-◌, ◌*◌, List, [], ◌∷◌, map, replicate, Option, Some, None, slice_get, slice_set, Bool, ◌&&◌, nat_lt, nat_le, if◌then◌else◌, option_and_then, codes}
+use Rattle.rpc_header.specs.declared.Activity.{Activity}
+use Rattle.rpc_header.specs.declared.Export.{Export}
+use Rattle.call_rules.specs.Packet.{Packet}
+use Rattle.call_rules.specs.Entry.{Entry, Empty}
+use Rattle.call_rules.specs.Worker.{Worker, Resting}
+use Rattle.call_rules.specs.Caller.{Caller, idle}
+use Rattle.replay_model.specs.Record.{ExportRow, Records, no_records}
+
+-- the exports and the next identifier; the entries of the activities; four workers; the packets that are
+-- ready, oldest first; the total of the test service. small and long are its numbers of buffers
+pub record Server : Type 0 where
+  pub small : ℕ
+  pub long : ℕ
+  pub boot : ℕ
+  pub read : ℕ
+  pub rows : List (Option ExportRow)
+  pub next : ℕ
+  pub entries : List Entry
+  pub workers : List Worker
+  pub ready : List Packet
+  pub total : ℕ
+
+-- a process of a client: its caller, the number of its next call, its binding, the arguments of its call
+-- and what it has kept of a reply
+pub record Line : Type 0 where
+  pub caller : Caller
+  pub next : ℕ
+  pub binding : Export
+  pub arguments : List ℕ
+  pub kept : List ℕ
+
+-- boot is the second in which a machine booted, and read the last second that it has read
+pub record Client : Type 0 where
+  pub boot : ℕ
+  pub read : ℕ
+  pub lines : List Line
+
+pub record World : Type 0 where
+  pub second : ℕ
+  pub server : Server
+  pub clients : List Client
+  -- each packet that was sent; the first has number 1
+  pub bag : List Packet
+  pub records : Records
+
+abbrev pub first_client : ℕ
+first_client = 2
+
+-- the item of this number, in a list whose first item has the number from
+abbrev pub numbered : {A : Type 0} → ℕ → List A → ℕ → Option A
+numbered from xs n = if nat_lt n from then None else slice_get xs (n - from)
+
+abbrev pub with_numbered : {A : Type 0} → ℕ → List A → ℕ → A → List A
+with_numbered from xs n x = slice_set xs (n - from) x
+
+abbrev pub packet_at : List Packet → ℕ → Option Packet
+packet_at bag k = numbered 1 bag k
+
+-- the process of a machine
+abbrev pub line_at : List Client → (machine process : ℕ) → Option Line
+line_at clients machine process = option_and_then (λ (c : Client). numbered 1 c.lines process) (numbered first_client clients machine)
+
+-- there is one entry for each process of each client
+abbrev pub is_entry_activity : Activity → Bool
+is_entry_activity a = nat_le 2 a.machine && nat_le a.machine 9 && nat_le 1 a.process && nat_le a.process 8
+
+abbrev pub entry_place : Activity → ℕ
+entry_place a = 8 * (a.machine - 2) + (a.process - 1)
+
+abbrev pub entry_at : List Entry → Activity → Option Entry
+entry_at entries a = if is_entry_activity a then slice_get entries (entry_place a) else None
+
+abbrev pub with_entry : List Entry → Activity → Entry → List Entry
+with_entry entries a e = if is_entry_activity a then slice_set entries (entry_place a) e else entries
+
+-- a machine's first call number, by the second in which it booted
+abbrev pub first_number : ℕ → ℕ
+first_number boot = boot * 65536
+
+-- the least number that a call may not have yet, by the second
+abbrev pub number_limit : ℕ → ℕ
+number_limit second = (second + 1) * 65536
+
+-- the binding that a client boots with
+abbrev pub first_binding : Export
+first_binding = record { identifier = 1; index = 0 }
+
+-- the one export of a server that has booted
+abbrev pub main_row : ℕ → ExportRow
+main_row boot = record { kind = codes "Test"; instance = codes "main"; identifier = boot; procedures = 5 }
+
+abbrev pub booted_server : (small long boot : ℕ) → Server
+booted_server small long boot =
+    record {
+      small = small;
+      long = long;
+      boot = boot;
+      read = boot;
+      rows = Some (main_row boot) ∷ replicate 15 None;
+      next = boot + 1;
+      entries = replicate 64 Empty;
+      workers = replicate 4 Resting;
+      ready = [];
+      total = 0;
+    }
+
+-- process p has the cell p - 1
+abbrev pub booted_line : (boot machine process : ℕ) → Line
+booted_line boot machine process =
+    record {
+      caller = idle (record { machine = machine; process = process }) (process - 1);
+      next = first_number boot;
+      binding = first_binding;
+      arguments = [];
+      kept = [];
+    }
+
+abbrev pub booted_client : (boot machine : ℕ) → Client
+booted_client boot machine =
+    record {
+      boot = boot;
+      read = boot;
+      lines = map (booted_line boot machine) (1 ∷ 2 ∷ 3 ∷ 4 ∷ 5 ∷ 6 ∷ 7 ∷ 8 ∷ []);
+    }
+
+-- the world begins at second 1, in which all its machines boot
+abbrev pub first_world : (small long : ℕ) → World
+first_world small long =
+    record {
+      second = 1;
+      server = booted_server small long 1;
+      clients = map (booted_client 1) (2 ∷ 3 ∷ 4 ∷ 5 ∷ 6 ∷ 7 ∷ 8 ∷ 9 ∷ []);
+      bag = [];
+      records = no_records;
+    }
