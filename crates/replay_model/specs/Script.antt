@@ -53,6 +53,14 @@ Spells ws event.Journal = ws ≡ codes "journal" ∷ []
 Spells ws event.End = ws ≡ codes "end" ∷ []
 Spells _ _ = ⊥
 
+-- the numbers of an event are those that a line can have
+abbrev pub InRange : Event → Type 0
+InRange (event.Call machine process asked) = (2 ≤ machine) × (machine ≤ 9) × (1 ≤ process) × (process ≤ 8)
+InRange (event.Deliver packet) = (1 ≤ packet) × (packet ≤ 4294967295)
+InRange (event.Work number) = (1 ≤ number) × (number ≤ 4)
+InRange event.Journal = Unit {0}
+InRange event.End = Unit {0}
+
 -- the last event is the end, and no other is
 abbrev pub EndsOnce : List Event → Type 0
 EndsOnce [] = ⊥
