@@ -1,5 +1,5 @@
 -- What several reads or writes together do to the bytes that are told.
-use Rattle.std.proofs.Common.{◌≡◌, List, ℕ, ◌+◌, ◌-◌, ◌≤◌, [], ◌++◌, length, take, drop, Option, None, Some, IsSome, refl, sym, ap, subst, ◌∙◌, append_assoc, append-nil, arith, length-drop}
+use Rattle.std.proofs.Common.{◌≡◌, List, ℕ, ◌+◌, ◌-◌, ◌≤◌, [], ◌++◌, length, take, drop, Option, None, Some, refl, sym, ap, subst, ◌∙◌, append_assoc, append-nil, arith, length-drop}
 use Rattle.std.proofs.lemmas.List.{take_rest, length-take-le, take-append-le, take-append-drop, take-take, drop-drop}
 use Rattle.std.proofs.Math.Seq.{take-add}
 use Rattle.std.specs.Io.KnownBytes.{prepend_known, append_known}
@@ -35,7 +35,6 @@ Appended-take bytes at n x y z p q =
     let joined : take at bytes ++ take n (take (length bytes - at) (drop at bytes)) ≡ take (at + n) bytes =
     ap (λ rest. take at bytes ++ take n rest) (take_rest bytes at) ∙ sym (take-add at n bytes) in
     subst (λ all. Appended all x z) joined (Appended-append _ _ x y z p q)
-
 
 -- the bytes from `at` on are the n that were copied to a front, and those behind them
 pub drop-copied : (bytes front rest : List ℕ) (at n : ℕ) → at + n ≤ length bytes → front ≡ take n (drop at bytes)
