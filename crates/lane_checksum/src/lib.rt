@@ -12,7 +12,7 @@ use lanes::block_sum;
 
 /// How many bytes are summed in lanes before their carries are brought round. It is even, and no lane
 /// overflows within it.
-const BLOCK: usize = 65_536;
+const BLOCK: usize = 131_072;
 
 /// The one's complement sum of a text: of its 16-bit words, high byte first, with one zero byte added at an odd
 /// length.

@@ -11,8 +11,8 @@ loop-block-init c = sym reduced-zero
 pub block_sum-requires : goal.block_sum-requires
 block_sum-requires c =
     let cut = c.as_chunks.ensures in
-    let within : c.loop-block.block-index < length c.args.bytes.now / 65536 = omega (arith, cut.front_len) in
-    omega (arith, length-chunks_at 65536 c.args.bytes.now c.as_chunks.result.0.now cut.front c.loop-block.block-index within)
+    let within : c.loop-block.block-index < length c.args.bytes.now / 131072 = omega (arith, cut.front_len) in
+    omega (arith, length-chunks_at 131072 c.args.bytes.now c.as_chunks.result.0.now cut.front c.loop-block.block-index within)
 
 pub loop-block-preserved : goal.loop-block-preserved
 loop-block-preserved c =
@@ -35,4 +35,4 @@ returns c =
     ∙ ap (λ s. reduced (s + c.block_sum-2.result)) all_read
     ∙ ap (λ s. reduced (reduced (chunk_total blocks) + s)) c.block_sum-2.ensures
     ∙ reduced-add_both (chunk_total blocks) (word_total rest)
-    ∙ ap reduced (sym (chunks_total 65536 c.args.bytes.now blocks cut.front rest refl cut.back))
+    ∙ ap reduced (sym (chunks_total 131072 c.args.bytes.now blocks cut.front rest refl cut.back))
