@@ -26,20 +26,19 @@ pub(crate) fn block_sum(bytes: &[u8]) -> u16
     add(front, plain_sum(rest))
 }
 
-/// The sum of at most a block, a word at a time.
+/// The sum of a text a word at a time, each carry brought round at once.
 fn plain_sum(bytes: &[u8]) -> u16
-    requires { length bytes.now ≤ BLOCK }
     ensures { result ≡ csum bytes.now }
 {
     let (words, odd) = bytes.as_chunks::<2>();
-    let mut total: u32 = 0;
+    let mut sum = 0;
     for word in words {
-        total += u32::from(u16::from_be_bytes(*word));
+        sum = add(sum, u16::from_be_bytes(*word));
     }
-    if let Some(high) = odd.first() {
-        total += u32::from(u16::from_be_bytes([*high, 0]));
+    match odd.first() {
+        Some(high) => add(sum, u16::from_be_bytes([*high, 0])),
+        None => sum,
     }
-    fold(u64::from(total))
 }
 
 /// How many values a word has.
