@@ -119,3 +119,11 @@ length-with_entry es a e = go (is_entry_activity a)
 -- an entry that is written over itself
 pub entries_kept : (es : List Entry) (a : Activity) (e : Entry) → entry_at es a ≡ Some e → (b : Activity) (x : Entry) → entry_at (with_entry es a e) b ≡ Some x → entry_at es b ≡ Some x
 entries_kept es a e h = entries_set (λ b x. entry_at es b ≡ Some x) es a e (λ b x g ne. g) h
+
+-- the entry that was written
+pub entry_written : (es : List Entry) (a : Activity) (e x : Entry) → entry_at (with_entry es a e) a ≡ Some x → x ≡ e
+entry_written es a e x h = entries_set (λ b y. b ≡ a → y ≡ e) es a e (λ b y g ne same. absurd (ne same)) (λ same. refl) a x h refl
+
+-- an entry of another activity
+pub entries_other : (es : List Entry) (a : Activity) (e : Entry) (b : Activity) (x : Entry) → b ≢ a → entry_at (with_entry es a e) b ≡ Some x → entry_at es b ≡ Some x
+entries_other es a e b x ne h = entries_set (λ c y. c ≢ a → entry_at es c ≡ Some y) es a e (λ c y g n m. g) (λ m. absurd (m refl)) b x h ne
