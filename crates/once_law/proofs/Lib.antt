@@ -5,3 +5,6 @@ pub mod Growth
 pub mod Starting
 pub mod Delivering
 pub mod Workers
+pub mod Rows
+pub mod Steps
+pub mod Whole
