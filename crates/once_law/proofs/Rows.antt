@@ -63,6 +63,14 @@ last_of_own_packet c (caller.Sending i) kind.Result h signal e = last_of c kind.
 last_of_own_packet c (caller.Sending i) kind.Signal h signal e = last_of c kind.Signal _ true signal h refl e
 last_of_own_packet c _ _ h signal e = cc
 
+-- a packet by which the reply is whole is of the caller's call
+pub last_of_packet : (c : Caller) (h : Fields) (signal : Bool) → (on_packet c h).act ≡ Last signal → (h.call ≡ current_call c) × IsLast c h.kind signal (on_packet c h).caller
+last_of_packet c h signal = go (is_same_call h.call (current_call c)) refl
+  where
+    go : (b : Bool) → is_same_call h.call (current_call c) ≡ b → (cond b (on_own_packet c c.state h.kind h) (unused c)).act ≡ Last signal → (h.call ≡ current_call c) × IsLast c h.kind signal (cond b (on_own_packet c c.state h.kind h) (unused c)).caller
+    go true e a = (same_call h.call (current_call c) e, last_of_own_packet c c.state h.kind h signal a)
+    go false e a = cc
+
 -- what the answers of the test service are: they fit a packet
 pub served_fits : (total procedure : ℕ) (arguments : List ℕ) → length (served total procedure arguments).answer.reply ≤ piece_size
 served_fits total zero [] = omega arith
