@@ -1,5 +1,5 @@
 -- The invariant is kept where a packet comes to the server, and where a process returns.
-use Rattle.std.proofs.Common.{◌≡◌, ◌≢◌, ℕ, ◌+◌, ◌<◌, ◌≤◌, List, [], ◌∷◌, ◌++◌, Option, Some, None, Bool, true, false, refl, ap, sym, ◌∙◌, subst, arith}
+use Rattle.std.proofs.Common.{◌≡◌, ◌≢◌, ℕ, ◌<◌, List, [], ◌∷◌, ◌++◌, Some, true, false, ap, sym, ◌∙◌, arith}
 use Rattle.std.specs.Prelude.{Contains}
 use Rattle.std.proofs.lemmas.Bool.{false≢true}
 use Rattle.once_law.proofs.Lists.{members_push, none_twice_push}
@@ -10,7 +10,7 @@ use Rattle.call_rules.specs.Entry.{Entry}
 use Rattle.call_rules.specs.Worker.{Worker, Run}
 use Rattle.call_rules.specs.Caller.{is_idle, current_call}
 use Rattle.replay_model.specs.Record.{Start, Return}
-use Rattle.replay_model.specs.World.{Client, Line, numbered, with_numbered, line_at}
+use Rattle.replay_model.specs.World.{Client, Line, numbered, with_numbered}
 use Rattle.replay_model.specs.Once.{call_of_return}
 
 -- a packet comes to the server
@@ -45,7 +45,7 @@ line_of_other starts returns x m p n q l k hl ex hk ne =
       has_entry = hk.has_entry;
       used_numbers = hk.used_numbers;
       not_returned = λ o. members_push (λ t. t.call ≢ current_call k.caller) returns x (hk.not_returned o)
-        (λ e.
+          (λ e.
           let same = sym hk.own_activity ∙ sym (ap (λ c. c.activity) e) ∙ ex ∙ hl.own_activity in
           ne (ap (λ a. a.machine) same) (ap (λ a. a.process) same));
     }
@@ -65,8 +65,8 @@ Inv-return cs es ws ready bag starts journal returns m p c d l after x h ec el e
     let hl = h.lines m p l (line_at_read cs m p c l ec el) in
     record {
       lines = lines_set (λ n q j. IsLine starts (returns ++ x ∷ []) n q j) cs m p c d l after ec el ed
-        (λ n q j g ne. line_of_other starts returns x m p n q l j hl (ap (λ y. y.activity) new.own_call) (h.lines n q j g) ne)
-        (line_that_returns starts returns x m p l after hl new);
+          (λ n q j g ne. line_of_other starts returns x m p n q l j hl (ap (λ y. y.activity) new.own_call) (h.lines n q j g) ne)
+          (line_that_returns starts returns x m p l after hl new);
       entry_count = h.entry_count;
       works = h.works;
       apart = h.apart;

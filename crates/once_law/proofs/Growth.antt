@@ -1,14 +1,12 @@
 -- What stays true when a list of the records grows by an item, or when an entry that it doesn't speak of changes.
-use Rattle.std.proofs.Common.{◌≡◌, ◌≢◌, ℕ, List, [], ◌∷◌, ◌++◌, Option, Some, None, Bool, refl, ap, sym, ◌∙◌}
-use Rattle.std.specs.Prelude.{Contains}
+use Rattle.std.proofs.Common.{◌≡◌, ◌≢◌, ℕ, List, [], ◌∷◌, ◌++◌, Some, Bool, refl, ap, sym}
 use Rattle.std.proofs.lemmas.List.Elements.{Contains-append_left}
 use Rattle.once_law.proofs.Lists.{members_push}
-use Rattle.once_law.proofs.Parts.{IsStarted, HasRun, IsCallPacket, IsAnswer, IsSent, IsWorker, HasRunning, running, RunsElsewhere}
-use Rattle.rpc_header.specs.declared.Activity.{Activity}
+use Rattle.once_law.proofs.Parts.{IsStarted, HasRun, IsCallPacket, IsAnswer, IsSent, IsWorker, running, RunsElsewhere}
 use Rattle.call_rules.specs.Packet.{Call, Packet}
 use Rattle.call_rules.specs.Entry.{Entry}
 use Rattle.call_rules.specs.Worker.{Worker, Resting, Claimed, Admitted, Ran, Run, run_of}
-use Rattle.replay_model.specs.Record.{Start, Return}
+use Rattle.replay_model.specs.Record.{Start}
 use Rattle.replay_model.specs.World.{entry_at}
 
 pub more_starts : (starts : List Start) (s : Start) (call : Call) (procedure : ℕ) (arguments : List ℕ) → IsStarted starts call procedure arguments → IsStarted (starts ++ s ∷ []) call procedure arguments

@@ -1,7 +1,7 @@
 -- The world's maps: what a process, an entry or a worker is after a write of one of them.
-use Rattle.std.proofs.Common.{◌≡◌, ◌≢◌, ℕ, zero, suc, ◌+◌, ◌-◌, ◌<◌, ◌≤◌, List, [], ◌∷◌, ◌++◌, length, refl, ap, sym, ◌∙◌, subst, arith, Option, Some, None, Bool, true, false, ltb, leb, cond, ltb-true, ltb-false, get_or}
+use Rattle.std.proofs.Common.{◌≡◌, ◌≢◌, ℕ, ◌-◌, ◌≤◌, List, length, refl, ap, sym, ◌∙◌, subst, arith, Some, None, Bool, true, false, ltb, cond, ltb-false, get_or}
 use Rattle.std.specs.Prelude.{slice_get, slice_set, Contains}
-use Rattle.std.proofs.lemmas.Option.{none-some, same_Some, option_and_then_some, slice_get-get_or}
+use Rattle.std.proofs.lemmas.Option.{none-some, option_and_then_some, slice_get-get_or}
 use Rattle.std.proofs.lemmas.Bool.{le-ltb, false≢true}
 use Rattle.std.proofs.lemmas.Bool.Decides.{nat_tests}
 use Rattle.std.proofs.lemmas.List.{length-set}
@@ -26,9 +26,9 @@ pub numbered_set : {A : Type 0} (P : ℕ → A → Type 0) (from : ℕ) (xs : Li
 numbered_set {A} P from xs n a l old new m x h =
     let r = numbered_read from (with_numbered from xs n a) m x h in
     places_set (λ k y. (i : ℕ) → from ≤ i → i - from ≡ k → P i y) xs (n - from) a
-      (λ k y g ne i li e. old i y (numbered_at from xs i y li (rw e g)) (λ same. ne (omega arith)))
-      (λ i li e. subst (λ j. P j a) (omega arith) new)
-      (m - from) x r.1 m r.0 refl
+    (λ k y g ne i li e. old i y (numbered_at from xs i y li (rw e g)) (λ same. ne (omega arith)))
+    (λ i li e. subst (λ j. P j a) (omega arith) new)
+    (m - from) x r.1 m r.0 refl
 
 pub contains_numbered : {A : Type 0} (from : ℕ) (xs : List A) (n : ℕ) (x : A) → numbered from xs n ≡ Some x → Contains xs x
 contains_numbered from xs n x h = contains_read xs (n - from) x (numbered_read from xs n x h).1
@@ -41,16 +41,16 @@ line_at_read cs machine process c l e g = rw e g
 pub lines_set_client : (P : ℕ → ℕ → Line → Type 0) (cs : List Client) (machine : ℕ) (c : Client) → 2 ≤ machine → ((m p : ℕ) (l : Line) → line_at cs m p ≡ Some l → m ≢ machine → P m p l) → ((p : ℕ) (l : Line) → numbered 1 c.lines p ≡ Some l → P machine p l) → (m p : ℕ) (l : Line) → line_at (with_numbered 2 cs machine c) m p ≡ Some l → P m p l
 lines_set_client P cs machine c low old new m p l h =
     option_and_then_some {P = P m p l} (λ (d : Client). numbered 1 d.lines p) (numbered 2 (with_numbered 2 cs machine c) m) l h
-      (λ d e g. numbered_set (λ n d'. numbered 1 d'.lines p ≡ Some l → P n p l) 2 cs machine c low
-        (λ n d' e' ne g'. old n p l (line_at_read cs n p d' l e' g') ne) (λ g'. new p l g') m d e g)
+    (λ d e g. numbered_set (λ n d'. numbered 1 d'.lines p ≡ Some l → P n p l) 2 cs machine c low
+    (λ n d' e' ne g'. old n p l (line_at_read cs n p d' l e' g') ne) (λ g'. new p l g') m d e g)
 
 -- what holds of each process, also after one was written
 pub lines_set : (P : ℕ → ℕ → Line → Type 0) (cs : List Client) (machine process : ℕ) (c d : Client) (a b : Line) → numbered 2 cs machine ≡ Some c → numbered 1 c.lines process ≡ Some a → d.lines ≡ with_numbered 1 c.lines process b → ((m p : ℕ) (l : Line) → line_at cs m p ≡ Some l → (m ≡ machine → p ≡ process → ⊥) → P m p l) → P machine process b → (m p : ℕ) (l : Line) → line_at (with_numbered 2 cs machine d) m p ≡ Some l → P m p l
 lines_set P cs machine process c d a b ec ea ed old new =
     lines_set_client P cs machine d (numbered_read 2 cs machine c ec).0
-      (λ m p l h ne. old m p l h (λ e f. ne e))
-      (λ p l h. numbered_set (λ q k. P machine q k) 1 c.lines process b (numbered_read 1 c.lines process a ea).0
-        (λ q k g ne. old machine q k (line_at_read cs machine q c k ec g) (λ e f. ne f)) new p l (rw ed at h))
+    (λ m p l h ne. old m p l h (λ e f. ne e))
+    (λ p l h. numbered_set (λ q k. P machine q k) 1 c.lines process b (numbered_read 1 c.lines process a ea).0
+    (λ q k g ne. old machine q k (line_at_read cs machine q c k ec g) (λ e f. ne f)) new p l (rw ed at h))
 
 -- an activity that has an entry is one of the places
 pub entry_at_read : (es : List Entry) (a : Activity) (e : Entry) → entry_at es a ≡ Some e → (is_entry_activity a ≡ true) × (slice_get es (entry_place a) ≡ Some e)
@@ -96,9 +96,9 @@ entries_set P es a e old new b x h = go (is_entry_activity a) refl h
     go true i g =
         let r = entry_at_read (slice_set es (entry_place a) e) b x g in
         places_set (λ k y. (d : Activity) → is_entry_activity d ≡ true → entry_place d ≡ k → P d y) es (entry_place a) e
-          (λ k y f ne d id ed. old d y (entry_at_from es d y id (rw ed f)) (λ same. ne (sym ed ∙ ap entry_place same)))
-          (λ d id ed. subst (λ z. P z e) (sym (same_place d a id i ed)) new)
-          (entry_place b) x r.1 b r.0 refl
+        (λ k y f ne d id ed. old d y (entry_at_from es d y id (rw ed f)) (λ same. ne (sym ed ∙ ap entry_place same)))
+        (λ d id ed. subst (λ z. P z e) (sym (same_place d a id i ed)) new)
+        (entry_place b) x r.1 b r.0 refl
     go false i g =
         let r = entry_at_read es b x g in
         old b x g (λ same. false≢true (sym i ∙ ap is_entry_activity (sym same) ∙ r.0))

@@ -1,17 +1,16 @@
 -- The invariant holds of the first world and after any events, and `Once` follows from it.
-use Rattle.std.proofs.Common.{◌≡◌, ◌≢◌, ℕ, zero, suc, ◌+◌, ◌-◌, ◌<◌, ◌≤◌, List, [], ◌∷◌, length, map, replicate, Option, Some, None, refl, ap, sym, ◌∙◌, subst, arith}
+use Rattle.std.proofs.Common.{◌≡◌, ℕ, zero, suc, ◌+◌, ◌-◌, ◌<◌, ◌≤◌, List, [], ◌∷◌, map, replicate, Some, refl, ap, sym, ◌∙◌, subst, arith}
 use Rattle.std.specs.Prelude.{Contains, slice_get}
 use Rattle.std.proofs.lemmas.Option.{none-some, same_Some, option_and_then_some}
 use Rattle.std.proofs.lemmas.Bool.Decides.{nat_tests}
 use Rattle.std.proofs.lemmas.List.{length-replicate}
 use Rattle.once_law.proofs.Lists.{all_of_members}
 use Rattle.once_law.proofs.Places.{numbered_read}
-use Rattle.once_law.proofs.Parts.{IsLine, IsWorker, running, Inv, Holds}
+use Rattle.once_law.proofs.Parts.{IsLine, IsWorker, running, Holds}
 use Rattle.once_law.proofs.Steps.{Holds-step}
-use Rattle.call_rules.specs.Worker.{Worker, Resting, Run}
-use Rattle.call_rules.specs.Entry.{Entry, Empty}
+use Rattle.call_rules.specs.Worker.{Worker, Resting}
+use Rattle.call_rules.specs.Entry.{Empty}
 use Rattle.replay_model.specs.declared.event.Event.{Event}
-use Rattle.replay_model.specs.Record.{Return}
 use Rattle.replay_model.specs.World.{World, Client, Line, numbered, line_at, first_world, booted_client, booted_line}
 use Rattle.replay_model.specs.Step.{step, run}
 use Rattle.replay_model.specs.Once.{Once, WasStarted, TellsRun}
@@ -56,17 +55,17 @@ booted_is_line m p a b c d =
 first_lines : (m p : ℕ) (l : Line) → line_at (map (booted_client 1) (eight 2)) m p ≡ Some l → IsLine [] [] m p l
 first_lines m p l h =
     option_and_then_some {P = IsLine [] [] m p l} (λ (c : Client). numbered 1 c.lines p) (numbered 2 (map (booted_client 1) (eight 2)) m) l h
-      (λ c ec el.
-        let rm = numbered_read 2 (map (booted_client 1) (eight 2)) m c ec in
-        let cm = map_read (booted_client 1) (eight 2) (m - 2) c rm.1 in
-        let xm = eight_read 2 (m - 2) cm.0 cm.1 in
-        let rp = numbered_read 1 (map (booted_line 1 cm.0) (eight 1)) p l (subst (λ (d : Client). numbered 1 d.lines p ≡ Some l) (sym cm.2) el) in
-        let cp = map_read (booted_line 1 cm.0) (eight 1) (p - 1) l rp.1 in
-        let xp = eight_read 1 (p - 1) cp.0 cp.1 in
-        let em : cm.0 ≡ m = omega (arith, xm.0, rm.0) in
-        let ep : cp.0 ≡ p = omega (arith, xp.0, rp.0) in
-        subst (λ k. IsLine [] [] m p k) (sym (ap (λ a. booted_line 1 a cp.0) em ∙ ap (booted_line 1 m) ep) ∙ cp.2)
-          (booted_is_line m p rm.0 (omega (arith, xm.1, rm.0)) rp.0 (omega (arith, xp.1, rp.0))))
+    (λ c ec el.
+    let rm = numbered_read 2 (map (booted_client 1) (eight 2)) m c ec in
+    let cm = map_read (booted_client 1) (eight 2) (m - 2) c rm.1 in
+    let xm = eight_read 2 (m - 2) cm.0 cm.1 in
+    let rp = numbered_read 1 (map (booted_line 1 cm.0) (eight 1)) p l (subst (λ (d : Client). numbered 1 d.lines p ≡ Some l) (sym cm.2) el) in
+    let cp = map_read (booted_line 1 cm.0) (eight 1) (p - 1) l rp.1 in
+    let xp = eight_read 1 (p - 1) cp.0 cp.1 in
+    let em : cm.0 ≡ m = omega (arith, xm.0, rm.0) in
+    let ep : cp.0 ≡ p = omega (arith, xp.0, rp.0) in
+    subst (λ k. IsLine [] [] m p k) (sym (ap (λ a. booted_line 1 a cp.0) em ∙ ap (booted_line 1 m) ep) ∙ cp.2)
+    (booted_is_line m p rm.0 (omega (arith, xm.1, rm.0)) rp.0 (omega (arith, xp.1, rp.0))))
 
 first_worker : (i : ℕ) (v : Worker) → numbered 1 (replicate 4 Resting) i ≡ Some v → v ≡ Resting
 first_worker i v g = replicate_read 4 Resting (i - 1) v (numbered_read 1 (replicate 4 Resting) i v g).1
@@ -96,11 +95,11 @@ once_holds w h =
     record {
       runs_once = h.runs_once;
       runs_were_started = all_of_members (WasStarted w.records) w.records.journal
-        (λ r c.
+          (λ r c.
           let s = h.runs_started r c in
           record { start = s.start; is_listed = s.is_listed; same_call = s.same_call; same_procedure = s.same_procedure; same_arguments = s.same_arguments });
       returns_tell_their_run = all_of_members (TellsRun w.records) w.records.returns
-        (λ x c.
+          (λ x c.
           let t = h.returns_run x c in
           record { run = t.run; is_listed = t.is_listed; same_call = t.same_call; same_signal = t.same_signal; same_reply = t.same_reply });
       returns_once = h.returns_once;

@@ -1,12 +1,12 @@
 -- The invariant is kept by each row of the worker's rules.
-use Rattle.std.proofs.Common.{◌≡◌, ◌≢◌, ℕ, ◌+◌, ◌<◌, ◌≤◌, List, [], ◌∷◌, ◌++◌, length, take, Option, Some, None, Bool, true, false, refl, ap, sym, ◌∙◌, subst, arith, inl, inr, ◌⊎◌}
+use Rattle.std.proofs.Common.{◌≡◌, ◌≢◌, ℕ, ◌<◌, ◌≤◌, List, [], ◌∷◌, ◌++◌, length, Some, None, Bool, refl, ap, sym, ◌∙◌, subst, arith, inl, inr, ◌⊎◌}
 use Rattle.std.specs.Prelude.{Contains}
 use Rattle.std.proofs.lemmas.List.Elements.{Contains-push}
 use Rattle.std.proofs.lemmas.Bool.Decides.{nat_tests}
 use Rattle.std.proofs.lemmas.Option.{same_Some, none-some}
 use Rattle.once_law.proofs.Lists.{members_push, none_twice_push, take_short}
 use Rattle.once_law.proofs.Places.{numbered_read, numbered_set, entries_set, entries_kept, entries_other, entry_written, length-with_entry}
-use Rattle.once_law.proofs.Parts.{IsStarted, IsCallPacket, HasRun, IsAnswer, IsSent, IsWorker, IsAdmitted, IsRan, HasRunning, Remembers, running, RunsElsewhere, AreApart, Inv}
+use Rattle.once_law.proofs.Parts.{IsStarted, IsCallPacket, IsSent, IsWorker, IsAdmitted, IsRan, Remembers, running, RunsElsewhere, AreApart, Inv}
 use Rattle.once_law.proofs.Growth.{more_runs, IsSent-more_runs, IsWorker-more_runs, IsWorker-other_entries}
 use Rattle.rpc_header.specs.declared.Activity.{Activity}
 use Rattle.call_rules.specs.Packet.{Packet, Fields, piece_size}
@@ -29,11 +29,11 @@ free_where_admitted w h e = record { not_running = grind (arith, nat_tests); emp
 AreApart-set : (ws : List Worker) (i : ℕ) (v : Worker) → 1 ≤ i → AreApart ws → ((j : ℕ) (u : Worker) → numbered 1 ws j ≡ Some u → j ≢ i → (p : Packet) → running v ≡ Some p → RunsElsewhere p.header.call.activity u) → AreApart (with_numbered 1 ws i v)
 AreApart-set ws i v low old new j k a b ha hb ne p hp =
     numbered_set (λ j a. (k : ℕ) (b : Worker) → numbered 1 (with_numbered 1 ws i v) k ≡ Some b → j ≢ k → (p : Packet) → running a ≡ Some p → RunsElsewhere p.header.call.activity b) 1 ws i v low
-      (λ j a ga nj k b hb ne p hp. numbered_set (λ k b. j ≢ k → RunsElsewhere p.header.call.activity b) 1 ws i v low
-        (λ k b gb nk ne. old j k a b ga gb ne p hp) (λ ne q hq e. new j a ga nj q hq p hp (sym e)) k b hb ne)
-      (λ k b hb ne p hp. numbered_set (λ k b. i ≢ k → RunsElsewhere p.header.call.activity b) 1 ws i v low
-        (λ k b gb nk ne. new k b gb nk p hp) (λ ne. absurd (ne refl)) k b hb ne)
-      j a ha k b hb ne p hp
+    (λ j a ga nj k b hb ne p hp. numbered_set (λ k b. j ≢ k → RunsElsewhere p.header.call.activity b) 1 ws i v low
+    (λ k b gb nk ne. old j k a b ga gb ne p hp) (λ ne q hq e. new j a ga nj q hq p hp (sym e)) k b hb ne)
+    (λ k b hb ne p hp. numbered_set (λ k b. i ≢ k → RunsElsewhere p.header.call.activity b) 1 ws i v low
+    (λ k b gb nk ne. new k b gb nk p hp) (λ ne. absurd (ne refl)) k b hb ne)
+    j a ha k b hb ne p hp
 
 -- a worker drops its packet or claims one: no entry changes
 pub Inv-idle : (cs : List Client) (es : List Entry) (ws : List Worker) (ready rest bag : List Packet) (starts : List Start) (journal : List Run) (returns : List Return) (i : ℕ) (v u : Worker) (a : Activity) (e : Entry) → Inv cs es ws ready bag starts journal returns → numbered 1 ws i ≡ Some v → entry_at es a ≡ Some e → running u ≡ None → IsWorker starts journal es u → ((p : Packet) → Contains rest p → Contains ready p) → Inv cs (with_entry es a e) (with_numbered 1 ws i u) rest bag starts journal returns
@@ -43,7 +43,7 @@ Inv-idle cs es ws ready rest bag starts journal returns i v u a e h ev ee nothin
       lines = h.lines;
       entry_count = length-with_entry es a e ∙ h.entry_count;
       works = λ j w g. IsWorker-other_entries starts journal es (with_entry es a e) w (λ p r x f. entries_kept es a e ee p.header.call.activity x f)
-        (numbered_set (λ k x. IsWorker starts journal es x) 1 ws i u low (λ k x f ne. h.works k x f) hu j w g);
+          (numbered_set (λ k x. IsWorker starts journal es x) 1 ws i u low (λ k x f ne. h.works k x f) hu j w g);
       apart = AreApart-set ws i u low h.apart (λ j w g ne p hp. absurd (none-some p (sym nothing ∙ hp)));
       waits = λ p g. h.waits p (part p g);
       sent = h.sent;
@@ -80,16 +80,16 @@ Inv-admit cs es ws ready bag starts journal returns i v p e h ev ee hp free =
       lines = h.lines;
       entry_count = length-with_entry es a (entry.Running n) ∙ h.entry_count;
       works = numbered_set (λ k x. IsWorker starts journal after x) 1 ws i (Admitted p) low
-        (λ k x f ne. IsWorker-other_entries starts journal es after x
+          (λ k x f ne. IsWorker-other_entries starts journal es after x
           (λ q r y g. entries_other es a (entry.Running n) q.header.call.activity y (elsewhere k x f q r) g) (h.works k x f))
-        (record { packet = hp; has_running = λ x g. entry_written es a (entry.Running n) x g; has_not_run = no_run });
+          (record { packet = hp; has_running = λ x g. entry_written es a (entry.Running n) x g; has_not_run = no_run });
       apart = AreApart-set ws i (Admitted p) low h.apart
-        (λ j u g ne q hq. subst (λ k. RunsElsewhere k.header.call.activity u) (same_Some p q hq) (elsewhere j u g));
+          (λ j u g ne q hq. subst (λ k. RunsElsewhere k.header.call.activity u) (same_Some p q hq) (elsewhere j u g));
       waits = h.waits;
       sent = h.sent;
       remembered = λ r c x g. entries_set (λ b y. b ≡ r.call.activity → Remembers y r.call.number) es a (entry.Running n)
-        (λ b y f ne same. h.remembered r c y (rw same at f))
-        (λ same. running_remembers n r.call.number (older r c (sym same))) r.call.activity x g refl;
+          (λ b y f ne same. h.remembered r c y (rw same at f))
+          (λ same. running_remembers n r.call.number (older r c (sym same))) r.call.activity x g refl;
       runs_started = h.runs_started;
       runs_once = h.runs_once;
       returns_run = h.returns_run;
@@ -98,18 +98,25 @@ Inv-admit cs es ws ready bag starts journal returns i v p e h ev ee hp free =
   where
     a : Activity
     a = p.header.call.activity
+
     n : ℕ
     n = p.header.call.number
+
     low : 1 ≤ i
     low = (numbered_read 1 ws i v ev).0
+
     after : List Entry
     after = with_entry es p.header.call.activity (entry.Running p.header.call.number)
+
     elsewhere : (j : ℕ) (u : Worker) → numbered 1 ws j ≡ Some u → RunsElsewhere p.header.call.activity u
     elsewhere j u g = no_worker_where_free starts journal es u p.header.call.activity e (h.works j u g) ee free.not_running
+
     remembers : (r : Run) → Contains journal r → r.call.activity ≡ p.header.call.activity → r.call.number < p.header.call.number
     remembers r c same = run_is_older e r.call.number p.header.call.number (h.remembered r c e (rw same ee)) free
+
     older : (r : Run) → Contains journal r → r.call.activity ≡ p.header.call.activity → r.call.number ≤ p.header.call.number
     older r c same = let l = remembers r c same in omega arith
+
     no_run : (r : Run) → Contains journal r → r.call ≢ p.header.call
     no_run r c same = let l = remembers r c (ap (λ k. k.activity) same) in absurd (omega (arith, ap (λ k. k.number) same))
 
@@ -120,15 +127,15 @@ Inv-run cs es ws ready bag starts journal returns i p answer e h ev ee fits =
       lines = h.lines;
       entry_count = length-with_entry es p.header.call.activity e ∙ h.entry_count;
       works = numbered_set (λ k x. IsWorker starts (journal ++ r ∷ []) after x) 1 ws i (Ran p answer) low
-        (λ k x f ne. IsWorker-other_entries starts (journal ++ r ∷ []) es after x (λ q hq y g. kept q.header.call.activity y g)
+          (λ k x f ne. IsWorker-other_entries starts (journal ++ r ∷ []) es after x (λ q hq y g. kept q.header.call.activity y g)
           (IsWorker-more_runs starts journal r es x (h.apart i k (Admitted p) x ev f (λ same. ne (sym same)) p refl) (h.works k x f)))
-        (record { packet = own.packet; has_running = λ x g. own.has_running x (kept p.header.call.activity x g); has_run = Contains-push journal r; fits = fits });
+          (record { packet = own.packet; has_running = λ x g. own.has_running x (kept p.header.call.activity x g); has_run = Contains-push journal r; fits = fits });
       apart = AreApart-set ws i (Ran p answer) low h.apart (λ j u g ne. h.apart i j (Admitted p) u ev g (λ same. ne (sym same)));
       waits = h.waits;
       sent = λ q g. IsSent-more_runs starts journal r q (h.sent q g);
       remembered = members_push (λ t. (x : Entry) → entry_at after t.call.activity ≡ Some x → Remembers x t.call.number) journal r
-        (λ t c x g. h.remembered t c x (kept t.call.activity x g))
-        (λ x g. subst (λ y. Remembers y p.header.call.number) (sym (own.has_running x (kept p.header.call.activity x g))) (running_remembers p.header.call.number p.header.call.number (omega arith)));
+          (λ t c x g. h.remembered t c x (kept t.call.activity x g))
+          (λ x g. subst (λ y. Remembers y p.header.call.number) (sym (own.has_running x (kept p.header.call.activity x g))) (running_remembers p.header.call.number p.header.call.number (omega arith)));
       runs_started = members_push (λ t. IsStarted starts t.call t.procedure t.arguments) journal r h.runs_started own.packet.is_started;
       runs_once = none_twice_push call_of_run journal r h.runs_once own.has_not_run;
       returns_run = λ x g. more_runs journal r x.call x.signal x.reply (h.returns_run x g);
@@ -137,12 +144,16 @@ Inv-run cs es ws ready bag starts journal returns i p answer e h ev ee fits =
   where
     r : Run
     r = run_of p answer
+
     low : 1 ≤ i
     low = (numbered_read 1 ws i (Admitted p) ev).0
+
     after : List Entry
     after = with_entry es p.header.call.activity e
+
     own : IsAdmitted starts journal es p
     own = h.works i (Admitted p) ev
+
     kept : (b : Activity) (x : Entry) → entry_at (with_entry es p.header.call.activity e) b ≡ Some x → entry_at es b ≡ Some x
     kept = entries_kept es p.header.call.activity e ee
 
@@ -153,23 +164,23 @@ Inv-reply cs es ws ready bag starts journal returns i p answer e h ev ee =
       lines = h.lines;
       entry_count = length-with_entry es p.header.call.activity done ∙ h.entry_count;
       works = numbered_set (λ k x. IsWorker starts journal after x) 1 ws i Resting low
-        (λ k x f ne. IsWorker-other_entries starts journal es after x
+          (λ k x f ne. IsWorker-other_entries starts journal es after x
           (λ q hq y g. entries_other es p.header.call.activity done q.header.call.activity y (h.apart i k (Ran p answer) x ev f (λ same. ne (sym same)) p refl q hq) g) (h.works k x f))
-        tt;
+          tt;
       apart = AreApart-set ws i Resting low h.apart (λ j u g ne q hq. absurd (none-some q hq));
       waits = h.waits;
       sent = members_push (λ q. IsSent starts journal q) bag (reply_packet p answer) h.sent
-        (record {
-          to_server = λ f. absurd (own.packet.from_client f);
-          to_client = λ ne. record {
-            signal = answer.signal;
-            same_kind = refl;
-            has_run = record { run = run_of p answer; is_listed = own.has_run; same_call = refl; same_signal = refl; same_reply = sym (take_short piece_size answer.reply own.fits) };
-          };
-        });
+          (record {
+            to_server = λ f. absurd (own.packet.from_client f);
+            to_client = λ ne. record {
+              signal = answer.signal;
+              same_kind = refl;
+              has_run = record { run = run_of p answer; is_listed = own.has_run; same_call = refl; same_signal = refl; same_reply = sym (take_short piece_size answer.reply own.fits) };
+            };
+          });
       remembered = λ r c x g. entries_set (λ b y. b ≡ r.call.activity → Remembers y r.call.number) es p.header.call.activity done
-        (λ b y f ne same. h.remembered r c y (rw same at f))
-        (λ same. done_remembers p.header.call.number r.call.number answer.signal answer.reply (reaches r c (sym same))) r.call.activity x g refl;
+          (λ b y f ne same. h.remembered r c y (rw same at f))
+          (λ same. done_remembers p.header.call.number r.call.number answer.signal answer.reply (reaches r c (sym same))) r.call.activity x g refl;
       runs_started = h.runs_started;
       runs_once = h.runs_once;
       returns_run = h.returns_run;
@@ -178,11 +189,15 @@ Inv-reply cs es ws ready bag starts journal returns i p answer e h ev ee =
   where
     done : Entry
     done = entry.Done p.header.call.number answer.signal answer.reply
+
     low : 1 ≤ i
     low = (numbered_read 1 ws i (Ran p answer) ev).0
+
     after : List Entry
     after = with_entry es p.header.call.activity (entry.Done p.header.call.number answer.signal answer.reply)
+
     own : IsRan starts journal es p answer
     own = h.works i (Ran p answer) ev
+
     reaches : (r : Run) → Contains journal r → r.call.activity ≡ p.header.call.activity → r.call.number ≤ p.header.call.number
     reaches r c same = (subst (λ y. Remembers y r.call.number) (own.has_running e ee) (h.remembered r c e (rw same ee))).reaches

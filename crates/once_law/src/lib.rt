@@ -14,5 +14,4 @@ ghost use Rattle.replay_model.specs.World.{first_world};
 /// need not be in range, and a packet may be delivered again and again.
 pub fn once_after_any_events()
     ensures { (small long : ℕ) (events : List Event) → Once (run (first_world small long) events) }
-{
-}
+{}
