@@ -6,6 +6,11 @@ ghost use Rattle.std.specs.Prelude.{◌≡◌, ◌<◌, ◌≤◌, ◌^◌, ◌�
 
 use thiserror::Error;
 
+mod layout;
+mod reading;
+
+pub use layout::{HEADER_LEN, MAX_DATA};
+
 /// The first number that is no call number: a call number has 48 bits.
 pub const CALL_NUMBER_LIMIT: u64 = 1 << 48;
 
