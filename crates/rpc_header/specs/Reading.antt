@@ -50,14 +50,14 @@ abbrev pub data_behind : List ℕ → List ℕ
 data_behind xs = drop 32 xs
 
 -- whether a fault applies to the bytes
-abbrev pub applies : List ℕ → HeaderFault → Bool
+unfoldable pub applies : List ℕ → HeaderFault → Bool
 applies xs fault.Short = nat_lt (length xs) 32
 applies xs fault.Version = is_none (fragments_of (number_in xs version_field))
 applies xs fault.Kind = is_none (kind_of (number_in xs kind_field))
 applies xs fault.Flags = nat_lt 3 (number_in xs flags_field)
 applies xs fault.Reason = not (is_reason (header_in xs).kind (number_in xs reason_field))
 applies xs fault.Length =
-    not (number_in xs data_length_field == length (data_behind xs)) || nat_lt data_limit (number_in xs data_length_field)
+    not (number_in xs data_length_field == length xs - 32) || nat_lt data_limit (number_in xs data_length_field)
 applies xs fault.Reserved = not (number_in xs reserved_field == 0)
 applies xs fault.ShortFragment =
     is_short_fragment (header_in xs).kind (header_in xs).last (number_in xs data_length_field)
@@ -69,6 +69,10 @@ abbrev pub faults : List HeaderFault
 faults =
     fault.Short ∷ fault.Version ∷ fault.Kind ∷ fault.Flags ∷ fault.Reason ∷ fault.Length
     ∷ fault.Reserved ∷ fault.ShortFragment ∷ fault.FragmentNumber ∷ []
+
+-- the first fault that applies, of those behind the first n
+unfoldable pub first_fault_from : ℕ → List ℕ → Option HeaderFault
+first_fault_from n xs = find (applies xs) (drop n faults)
 
 -- what reading gives: the first fault that applies, or the header and the data behind it
 pub data Read : Type 0 where

@@ -1,8 +1,8 @@
 // Where each field of a header stands, and what its numbers mean.
 
-ghost use Rattle.std.specs.Prelude.{◌≡◌, ◌<◌};
-ghost use Rattle.rpc_header.specs.Fields.{flags_number, has_bit, has_pieces, is_reason, kind_number, kind_of};
-ghost use Rattle.rpc_header.specs.Spelling.{is_short_fragment};
+ghost use Rattle.std.specs.Prelude.{◌≡◌, ◌==◌, ◌||◌, nat_lt, not};
+ghost use Rattle.rpc_header.specs.Fields.{flags_number, is_reason, kind_number, kind_of};
+ghost use Rattle.rpc_header.specs.Spelling.{data_limit, is_short_fragment};
 ghost use Rattle.rpc_header.specs.Versions.{fragments_of};
 
 use crate::Kind;
@@ -99,4 +99,11 @@ pub(crate) fn is_short(kind: Kind, last: bool, data_len: usize) -> bool
 {
     let in_pieces = matches!(kind, Kind::Call | Kind::Result | Kind::Signal);
     in_pieces && !last && data_len != MAX_DATA
+}
+
+/// Whether the data's length in a header is other than the number of bytes behind it, or too large.
+pub(crate) fn is_wrong_length(data_len: usize, behind: usize) -> bool
+    ensures { result ≡ (not (data_len == behind) || nat_lt data_limit data_len) }
+{
+    data_len != behind || data_len > MAX_DATA
 }

@@ -6,9 +6,11 @@ ghost use Rattle.std.specs.Prelude.{◌≡◌, ◌<◌, ◌≤◌, ◌^◌, ◌�
 
 use thiserror::Error;
 
+mod laws;
 mod layout;
 mod reading;
 
+pub use laws::{what_is_read_was_written, what_is_written_is_read};
 pub use layout::{HEADER_LEN, MAX_DATA};
 
 /// The first number that is no call number: a call number has 48 bits.
