@@ -9,8 +9,11 @@ use thiserror::Error;
 mod laws;
 mod layout;
 mod reading;
+mod writing;
 
 pub use laws::{what_is_read_was_written, what_is_written_is_read};
+pub use writing::{fits, write_header};
+pub use reading::read_header;
 pub use layout::{HEADER_LEN, MAX_DATA};
 
 /// The first number that is no call number: a call number has 48 bits.

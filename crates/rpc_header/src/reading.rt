@@ -1,7 +1,8 @@
 // Reading a header, and the data behind it, from the bytes of a packet.
 
-ghost use Rattle.std.specs.Prelude.{◌≡◌, ◌+◌, ◌≤◌, length, IfOk, MatchResult};
-ghost use Rattle.rpc_header.specs.Fields.{data_length_field, fragment_field, version_field};
+ghost use Rattle.std.specs.Prelude.{◌≡◌, ◌+◌, ◌++◌, ◌≤◌, length, IfOk, MatchResult};
+ghost use Rattle.rpc_header.specs.Fields.{data_length_field, flags_field, has_bit, version_field};
+ghost use Rattle.rpc_header.specs.Spelling.{HasSpelling, spelling};
 ghost use Rattle.rpc_header.specs.Versions.{fragments_of};
 ghost use Rattle.rpc_header.specs.Reading.{Accepted, Refused, call_number_of, first_fault_from, header_in, number_at, number_in, read_of};
 
@@ -72,47 +73,54 @@ fn export_in(bytes: &[u8]) -> Export
     }
 }
 
-/// What the first four bytes of a header say.
-#[derive(Clone, Copy)]
-struct Front {
-    fragments: u16,
-    kind: Kind,
-    please_ack: bool,
-    last: bool,
-    reason: u8,
+/// Whether a flag is set.
+fn has_flag(bytes: &[u8], flag: u8) -> bool
+    requires { 32 ≤ length bytes.now }
+    ensures { result ≡ has_bit (number_in bytes.now flags_field) flag }
+{
+    byte_at(bytes, place::FLAGS) & flag != 0
 }
 
-/// The first four bytes of a header, or the first fault that applies to them.
+/// The header that the bytes are, where no fault applies to them.
+fn header_of(bytes: &[u8], kind: Kind) -> Header
+    requires room { 32 ≤ length bytes.now }
+    requires kind { kind ≡ (header_in bytes.now).kind }
+    ensures { result ≡ header_in bytes.now }
+{
+    Header {
+        kind,
+        please_ack: has_flag(bytes, PLEASE_ACK),
+        last: has_flag(bytes, LAST),
+        reason: byte_at(bytes, place::REASON),
+        call: call_in(bytes),
+        hint: u16_at(bytes, place::HINT),
+        fragment: u16_at(bytes, place::FRAGMENT),
+        export: export_in(bytes),
+        procedure: u16_at(bytes, place::PROCEDURE),
+    }
+}
+
+/// The number of fragments that the version counts, and the kind; or the first fault that applies
+/// to the first four bytes of a header.
 #[tactic(auto, unfolding(crate::specs::Reading::applies, crate::specs::Reading::first_fault_from))]
-fn front_of(bytes: &[u8]) -> Result<Front, HeaderFault>
+fn fragments_and_kind(bytes: &[u8]) -> Result<(u16, Kind), HeaderFault>
     requires { 32 ≤ length bytes.now }
     ensures faults { MatchResult result
-        (λ front. first_fault_from 0 bytes.now ≡ first_fault_from 5 bytes.now)
+        (λ read. first_fault_from 0 bytes.now ≡ first_fault_from 5 bytes.now)
         (λ fault. first_fault_from 0 bytes.now ≡ Some fault) }
-    ensures fragments { IfOk result (λ front. Some front.fragments ≡ fragments_of (number_in bytes.now version_field)) }
-    ensures kind { IfOk result (λ front. front.kind ≡ (header_in bytes.now).kind) }
-    ensures please_ack { IfOk result (λ front. front.please_ack ≡ (header_in bytes.now).please_ack) }
-    ensures last { IfOk result (λ front. front.last ≡ (header_in bytes.now).last) }
-    ensures reason { IfOk result (λ front. front.reason ≡ (header_in bytes.now).reason) }
+    ensures fragments { IfOk result (λ read. Some read.0 ≡ fragments_of (number_in bytes.now version_field)) }
+    ensures kind { IfOk result (λ read. read.1 ≡ (header_in bytes.now).kind) }
 {
     let version = byte_at(bytes, place::VERSION);
     let fragments = fragments_of_version(version).ok_or(HeaderFault::Version)?;
     let kind = kind_of_byte(byte_at(bytes, place::KIND)).ok_or(HeaderFault::Kind)?;
-    let flags = byte_at(bytes, place::FLAGS);
-    if flags > (PLEASE_ACK | LAST) {
+    if byte_at(bytes, place::FLAGS) > (PLEASE_ACK | LAST) {
         return Err(HeaderFault::Flags);
     }
-    let reason = byte_at(bytes, place::REASON);
-    if !may_give(kind, reason) {
+    if !may_give(kind, byte_at(bytes, place::REASON)) {
         return Err(HeaderFault::Reason);
     }
-    Ok(Front {
-        fragments,
-        kind,
-        please_ack: flags & PLEASE_ACK != 0,
-        last: flags & LAST != 0,
-        reason,
-    })
+    Ok((fragments, kind))
 }
 
 /// The length of the data, or the first fault that applies to the last four bytes of a header.
@@ -134,52 +142,41 @@ fn data_len_of(bytes: &[u8]) -> Result<usize, HeaderFault>
     Ok(data_len)
 }
 
-/// The number of the fragment, or the first fault that applies to the fragment.
+/// Looks for a fault of the fragment: a piece that isn't full, or a number out of range.
 #[tactic(auto, unfolding(crate::specs::Reading::applies, crate::specs::Reading::first_fault_from))]
-fn fragment_of(bytes: &[u8], front: &Front, data_len: usize) -> Result<u16, HeaderFault>
+fn check_fragment(bytes: &[u8], fragments: u16, kind: Kind, data_len: usize) -> Result<(), HeaderFault>
     requires room { 32 ≤ length bytes.now }
-    requires fragments { Some front.now.fragments ≡ fragments_of (number_in bytes.now version_field) }
-    requires kind { front.now.kind ≡ (header_in bytes.now).kind }
-    requires last { front.now.last ≡ (header_in bytes.now).last }
+    requires fragments { Some fragments ≡ fragments_of (number_in bytes.now version_field) }
+    requires kind { kind ≡ (header_in bytes.now).kind }
     requires data_len { data_len ≡ number_in bytes.now data_length_field }
-    ensures faults { MatchResult result
-        (λ fragment. first_fault_from 7 bytes.now ≡ None)
+    ensures { MatchResult result
+        (λ _. first_fault_from 7 bytes.now ≡ None)
         (λ fault. first_fault_from 7 bytes.now ≡ Some fault) }
-    ensures fragment { IfOk result (λ fragment. fragment ≡ number_in bytes.now fragment_field) }
 {
-    if is_short(front.kind, front.last, data_len) {
+    if is_short(kind, has_flag(bytes, LAST), data_len) {
         return Err(HeaderFault::ShortFragment);
     }
-    let fragment = u16_at(bytes, place::FRAGMENT);
-    if fragment >= front.fragments {
+    if u16_at(bytes, place::FRAGMENT) >= fragments {
         return Err(HeaderFault::FragmentNumber);
     }
-    Ok(fragment)
+    Ok(())
 }
 
-/// The header at the front of a packet's bytes, and the data behind it; or the first fault.
+/// Reads the header at the front of a packet's bytes. Gives it and the data behind it, or the first
+/// fault that applies: exactly a header's one spelling with its data behind it is accepted.
 #[tactic(auto, using(crate::proofs::Faults::short_read, crate::proofs::Faults::refused_read, crate::proofs::Faults::accepted_read))]
 pub fn read_header(bytes: &[u8]) -> Result<(Header, &[u8]), HeaderFault>
     ensures read { MatchResult result
         (λ read. read_of bytes.now ≡ Accepted read.0 read.1.now)
         (λ fault. read_of bytes.now ≡ Refused fault) }
+    ensures has_spelling { IfOk result (λ read. HasSpelling read.0 (length read.1.now)) }
+    ensures spelled { IfOk result (λ read. bytes.now ≡ spelling read.0 (length read.1.now) ++ read.1.now) }
 {
     if bytes.len() < HEADER_LEN {
         return Err(HeaderFault::Short);
     }
-    let front = front_of(bytes)?;
+    let (fragments, kind) = fragments_and_kind(bytes)?;
     let data_len = data_len_of(bytes)?;
-    let fragment = fragment_of(bytes, &front, data_len)?;
-    let header = Header {
-        kind: front.kind,
-        please_ack: front.please_ack,
-        last: front.last,
-        reason: front.reason,
-        call: call_in(bytes),
-        hint: u16_at(bytes, place::HINT),
-        fragment,
-        export: export_in(bytes),
-        procedure: u16_at(bytes, place::PROCEDURE),
-    };
-    Ok((header, &bytes[HEADER_LEN..]))
+    check_fragment(bytes, fragments, kind, data_len)?;
+    Ok((header_of(bytes, kind), &bytes[HEADER_LEN..]))
 }
