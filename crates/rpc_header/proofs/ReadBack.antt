@@ -13,6 +13,7 @@ use Rattle.rpc_header.specs.Versions.{fragments_of}
 use Rattle.rpc_header.specs.Fields.{Field, version_field, kind_field, flags_field, reason_field, machine_field, process_field, hint_field, call_number_field, fragment_field, identifier_field, index_field, procedure_field, data_length_field, reserved_field, fields, place_of, kind_number, kind_of, flags_number, has_bit, is_reason}
 use Rattle.rpc_header.specs.Spelling.{FitsFields, HasSpelling, is_short_fragment, spelling, value_in}
 use Rattle.rpc_header.specs.Reading.{Accepted, applies, first_fault_from, header_in, call_number_of, number_at, number_in, read_of, read_or}
+use Rattle.rpc_header.proofs.Ranges.{flags_small, kind_small, reason_small}
 use Rattle.rpc_header.proofs.CallNumbers.{same_number}
 use Rattle.rpc_header.proofs.Faults.{NoFault, none_applies}
 
@@ -38,32 +39,6 @@ field_back h len d index_field small = big_number-reads_back 2 h.export.index (b
 field_back h len d procedure_field small = big_number-reads_back 2 h.procedure (behind 12 h len ++ d) small
 field_back h len d data_length_field small = big_number-reads_back 2 len (behind 13 h len ++ d) small
 field_back h len d reserved_field small = big_number-reads_back 2 0 d small
-
-reason_small : (kind : Kind) (reason : ℕ) → IsTrue (is_reason kind reason) → reason < 256
-reason_small kind.Reject reason h = grind (arith, nat_tests)
-reason_small kind.Bound reason h = grind (arith, nat_tests)
-reason_small kind.Call reason h = grind (arith, nat_tests)
-reason_small kind.Result reason h = grind (arith, nat_tests)
-reason_small kind.Ack reason h = grind (arith, nat_tests)
-reason_small kind.Probe reason h = grind (arith, nat_tests)
-reason_small kind.Signal reason h = grind (arith, nat_tests)
-reason_small kind.Bind reason h = grind (arith, nat_tests)
-
-kind_small : (kind : Kind) → kind_number kind < 256
-kind_small kind.Call = lit< tt
-kind_small kind.Result = lit< tt
-kind_small kind.Ack = lit< tt
-kind_small kind.Probe = lit< tt
-kind_small kind.Reject = lit< tt
-kind_small kind.Signal = lit< tt
-kind_small kind.Bind = lit< tt
-kind_small kind.Bound = lit< tt
-
-flags_small : (a b : Bool) → flags_number a b ≤ 3
-flags_small false false = omega arith
-flags_small true false = omega arith
-flags_small false true = omega arith
-flags_small true true = omega arith
 
 -- each number of a header with a spelling has room in its field
 room : (h : Header) (len : ℕ) → FitsFields h → HasSpelling h len → (field : Field)
