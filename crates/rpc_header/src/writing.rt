@@ -2,7 +2,7 @@
 
 ghost use Rattle.std.specs.Prelude.{◌≡◌, ◌↔◌, ◌++◌, IsTrue, List, ℕ, length};
 ghost use Rattle.rpc_header.specs.Reading.{Accepted, read_of};
-ghost use Rattle.rpc_header.specs.Spelling.{HasSpelling, spelling};
+ghost use Rattle.rpc_header.specs.Spelling.{FitsFields, HasSpelling, spelling};
 
 use crate::layout::{MAX_DATA, VERSION, flags_byte, fragments_of_version, is_short, kind_byte, may_give, place};
 use crate::Header;
@@ -23,7 +23,17 @@ pub fn fits(header: &Header, data_len: usize) -> bool
 /// Writes the spelling of a header, for a packet with this many bytes of data behind it.
 pub fn write_header(header: &Header, data_len: usize, into: &mut [u8; 32])
     requires { HasSpelling header.now data_len }
-    ensures { into.new ≡ spelling header.now data_len }
+    ensures spelled { into.new ≡ spelling header.now data_len }
+    ensures reads_back { (d : List ℕ) → length d ≡ data_len → read_of (into.new ++ d) ≡ Accepted header.now d }
+{
+    write_fields(*header, data_len, into);
+}
+
+/// Writes each field of a header at its place.
+fn write_fields(header: Header, data_len: usize, into: &mut [u8; 32])
+    requires { HasSpelling header data_len }
+    ensures spelled { into.new ≡ spelling header data_len }
+    ensures room { FitsFields header }
 {
     into[place::VERSION] = VERSION;
     into[place::KIND] = kind_byte(header.kind);

@@ -1,20 +1,18 @@
--- The rows are written one after the other.
-use Rattle.std.proofs.Common.{lit≤}
-use Rattle.rpc_header.proofs.Written.{first_row, next_row, rows, written}
+-- What was written is read back.
+use Rattle.std.proofs.Common.{◌≡◌, ◌++◌, List, ℕ, length, ap, sym, subst, ◌∙◌}
+use Rattle.rpc_header.specs.Reading.{Accepted, read_of}
+use Rattle.rpc_header.specs.Spelling.{FitsFields, HasSpelling, spelling}
+use Rattle.rpc_header.specs.declared.Header.{Header}
+use Rattle.rpc_header.proofs.ReadBack.{read_back}
 use Rattle.rpc_header.proofs.writing.write_header.Goals as goal
 
-pub returns : goal.returns
-unfolding rows
-returns c =
-    let first = first_row _ 1 c.kind_byte.result c.flags_byte.result c.args.header.now.reason c.told-into in
-    let machine = next_row 4 4 _ _ _ _ first (lit≤ tt) c.write_u32.ensures in
-    let process = next_row 8 2 _ _ _ _ machine (lit≤ tt) c.write_u16.ensures in
-    let hint = next_row 10 2 _ _ _ _ process (lit≤ tt) c.write_u16-2.ensures in
-    let call_number = next_row 12 6 _ _ _ _ hint (lit≤ tt) c.write_u48.ensures in
-    let fragment = next_row 18 2 _ _ _ _ call_number (lit≤ tt) c.write_u16-3.ensures in
-    let identifier = next_row 20 4 _ _ _ _ fragment (lit≤ tt) c.write_u32-2.ensures in
-    let index = next_row 24 2 _ _ _ _ identifier (lit≤ tt) c.write_u16-4.ensures in
-    let procedure = next_row 26 2 _ _ _ _ index (lit≤ tt) c.write_u16-5.ensures in
-    let data_length = next_row 28 2 c.args.data_len _ _ _ procedure (lit≤ tt) c.write_u16-6.ensures in
-    let reserved = next_row 30 2 0 _ _ _ data_length (lit≤ tt) c.write_u16-7.ensures in
-    written c.args.header.now c.args.data_len _ _ _ c.requires c.kind_byte.ensures c.flags_byte.ensures reserved
+reads_back : (h : Header) (len : ℕ) (xs d : List ℕ) → FitsFields h → HasSpelling h len → xs ≡ spelling h len
+    → length d ≡ len → read_of (xs ++ d) ≡ Accepted h d
+reads_back h len xs d f s spelled size =
+    let P : ℕ → Type 0 = λ n. HasSpelling h n in
+    ap (λ (ys : List ℕ). read_of (ys ++ d)) (spelled ∙ ap (spelling h) (sym size))
+        ∙ read_back h d f (subst P (sym size) s)
+
+pub returns-clause-reads_back : goal.returns-clause-reads_back
+returns-clause-reads_back c =
+    λ d. reads_back c.args.header.now c.args.data_len _ d c.write_fields.ensures.room c.requires c.write_fields.ensures.spelled
