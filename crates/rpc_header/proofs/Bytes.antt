@@ -1,6 +1,6 @@
 -- The bytes of a number that was read are the bytes that it was read from.
-use Rattle.std.proofs.Common.{◌≡◌, ◌<◌, ◌≤◌, ◌+◌, ◌*◌, ◌/◌, ◌^◌, ◌%◌, ℕ, zero, suc, List, [], ◌∷◌, ◌++◌, length, take, drop, slice_index, refl, ap, sym, subst, ◌∙◌, arith, length-append, lit<}
-use Rattle.std.proofs.lemmas.List.{append-nil, length-take, take-append-drop, length-drop, drop-drop}
+use Rattle.std.proofs.Common.{◌≡◌, ◌<◌, ◌≤◌, ◌+◌, ◌*◌, ◌/◌, ◌^◌, ℕ, zero, suc, List, [], ◌∷◌, ◌++◌, length, take, drop, slice_index, refl, ap, sym, ◌∙◌, arith, lit<}
+use Rattle.std.proofs.lemmas.List.{append-nil, length-take}
 use Rattle.std.proofs.lemmas.Nat.{div-mul-add}
 use Rattle.std.proofs.Math.Nat.{mod-lt, mod-eq_of_lt}
 use Rattle.std.specs.Int.{byte_at, bytes_high_first}
@@ -54,8 +54,8 @@ unique (suc n) (x ∷ xs) (y ∷ ys) lx ly bx by_ e =
     let small_y : big_from 0 n ys < 256 ^ n = big_from-lt 0 n ys (bytes-tail y ys by_).small in
     let whole : x * 256 ^ n + big_from 0 n xs ≡ y * 256 ^ n + big_from 0 n ys = omega arith in
     let same : x ≡ y =
-        sym (div-mul-add x (256 ^ n) (big_from 0 n xs) small_x)
-            ∙ ap (λ (m : ℕ). m / 256 ^ n) whole ∙ div-mul-add y (256 ^ n) (big_from 0 n ys) small_y in
+    sym (div-mul-add x (256 ^ n) (big_from 0 n xs) small_x)
+    ∙ ap (λ (m : ℕ). m / 256 ^ n) whole ∙ div-mul-add y (256 ^ n) (big_from 0 n ys) small_y in
     let tops : x * 256 ^ n ≡ y * 256 ^ n = ap (λ (m : ℕ). m * 256 ^ n) same in
     let rest : big_from 0 n xs ≡ big_from 0 n ys = omega arith in
     let tails : xs ≡ ys = unique n xs ys (omega arith) (omega arith) (bytes-tail x xs bx) (bytes-tail y ys by_) rest in
@@ -67,7 +67,7 @@ bytes_of_number n xs room h =
     let small : big_from 0 n xs < 256 ^ n = big_from-lt 0 n xs h.small in
     let nil : bytes_high_first n (big_from 0 n xs) ++ [] ≡ bytes_high_first n (big_from 0 n xs) = append-nil (bytes_high_first n (big_from 0 n xs)) in
     let spelled : big_from 0 n (bytes_high_first n (big_from 0 n xs)) ≡ big_from 0 n xs =
-        ap (big_from 0 n) (sym nil) ∙ big_from-bytes n (big_from 0 n xs) [] ∙ mod-eq_of_lt small in
+    ap (big_from 0 n) (sym nil) ∙ big_from-bytes n (big_from 0 n xs) [] ∙ mod-eq_of_lt small in
     unique n (bytes_high_first n (big_from 0 n xs)) (take n xs) (length-bytes_high_first n (big_from 0 n xs))
-        (omega (arith, length-take n xs)) (bytes-high_first n (big_from 0 n xs)) (bytes-take n xs h)
-        (spelled ∙ sym (big_from-take 0 n n xs (omega arith)))
+    (omega (arith, length-take n xs)) (bytes-high_first n (big_from 0 n xs)) (bytes-take n xs h)
+    (spelled ∙ sym (big_from-take 0 n n xs (omega arith)))

@@ -22,9 +22,9 @@ pub accepted_read : (xs : List ℕ) (h : Header) → first_fault_from 0 xs ≡ N
 unfolding read_of first_fault_from
 accepted_read xs h none same =
     let whole : take (length xs - 32) (drop 32 xs) ≡ drop 32 xs =
-        take_all (length xs - 32) (drop 32 xs) (omega (arith, length-drop 32 xs)) in
+    take_all (length xs - 32) (drop 32 xs) (omega (arith, length-drop 32 xs)) in
     ap (read_or xs) none ∙ ap (λ (g : Header). Accepted g (drop 32 xs)) same
-        ∙ ap (λ (ys : List ℕ). Accepted h ys) (sym whole)
+    ∙ ap (λ (ys : List ℕ). Accepted h ys) (sym whole)
 
 -- no fault applies
 pub record NoFault (xs : List ℕ) : Type 0 where
@@ -57,8 +57,15 @@ no_fault xs none =
     let h = not_found fault.ShortFragment (applies xs fault.ShortFragment) _ g.1 in
     let i = not_found fault.FragmentNumber (applies xs fault.FragmentNumber) _ h.1 in
     record {
-      short = a.0; version = b.0; kind = c.0; flags = d.0; reason = e.0;
-      data_length = f.0; reserved = g.0; short_fragment = h.0; fragment_number = i.0;
+      short = a.0;
+      version = b.0;
+      kind = c.0;
+      flags = d.0;
+      reason = e.0;
+      data_length = f.0;
+      reserved = g.0;
+      short_fragment = h.0;
+      fragment_number = i.0;
     }
 
 pub none_applies : (xs : List ℕ) → NoFault xs → first_fault_from 0 xs ≡ None

@@ -1,14 +1,12 @@
 -- A spelling with its data behind it is read as the header and the data.
-use Rattle.std.proofs.Common.{◌≡◌, ◌<◌, ◌≤◌, ◌+◌, ◌-◌, ◌^◌, ◌%◌, ◌&&◌, ◌||◌, not, ◌==◌, nat_lt, nat_le, nat_eq, ℕ, zero, suc, Bool, true, false, IsTrue, List, ◌++◌, length, take, drop, flat_map, Option, Some, None, is_none, unwrap_or, refl, ap, sym, subst, ◌∙◌, arith, rules, lit<}
+use Rattle.std.proofs.Common.{◌≡◌, ◌<◌, ◌≤◌, ◌+◌, ◌-◌, ◌^◌, ◌||◌, not, ◌==◌, nat_lt, nat_le, ℕ, Bool, true, false, IsTrue, List, ◌++◌, length, drop, flat_map, Option, Some, is_none, unwrap_or, refl, ap, sym, ◌∙◌, arith, lit<}
 use Rattle.std.proofs.lemmas.Bool.{le-ltb, lt-leb}
 use Rattle.std.proofs.lemmas.Bool.Decides.{nat_tests}
-use Rattle.byteorder.specs.Endian.{big_bytes, big_number}
+use Rattle.byteorder.specs.Endian.{big_bytes}
 use Rattle.byteorder.specs.Numbers.{big_number-reads_back}
 use Rattle.rpc_header.specs.declared.Header.{Header}
-use Rattle.rpc_header.specs.declared.CallNumber.{CallNumber}
 use Rattle.rpc_header.specs.declared.Kind.{Kind}
 use Rattle.rpc_header.specs.declared.Kind.TheVariants as kind
-use Rattle.rpc_header.specs.declared.HeaderFault.TheVariants as fault
 use Rattle.rpc_header.specs.Versions.{fragments_of}
 use Rattle.rpc_header.specs.Fields.{Field, version_field, kind_field, flags_field, reason_field, machine_field, process_field, hint_field, call_number_field, fragment_field, identifier_field, index_field, procedure_field, data_length_field, reserved_field, fields, place_of, kind_number, kind_of, flags_number, has_bit, is_reason}
 use Rattle.rpc_header.specs.Spelling.{FitsFields, HasSpelling, is_short_fragment, spelling, value_in}
@@ -87,7 +85,7 @@ record Says (xs : List ℕ) (h : Header) (len : ℕ) : Type 0 where
 kind_said : (xs : List ℕ) (h : Header) (len : ℕ) → Says xs h len → (header_in xs).kind ≡ h.kind
 kind_said xs h len e =
     ap (λ (n : ℕ). unwrap_or (kind_of n) kind.Call) (e.says kind_field)
-        ∙ ap (λ (k : Option Kind). unwrap_or k kind.Call) (kind_back h.kind)
+    ∙ ap (λ (k : Option Kind). unwrap_or k kind.Call) (kind_back h.kind)
 
 please_ack_said : (xs : List ℕ) (h : Header) (len : ℕ) → Says xs h len → (header_in xs).please_ack ≡ h.please_ack
 please_ack_said xs h len e =
@@ -134,27 +132,27 @@ fault_free xs h len e s size = record {
   version = ap (λ (n : ℕ). is_none (fragments_of n)) (e.says version_field);
   kind =
       ap (λ (n : ℕ). is_none (kind_of n)) (e.says kind_field)
-          ∙ ap (λ (k : Option Kind). is_none k) (kind_back h.kind);
+      ∙ ap (λ (k : Option Kind). is_none k) (kind_back h.kind);
   flags =
       ap (λ (n : ℕ). nat_lt 3 n) (e.says flags_field)
-          ∙ le-ltb 3 (flags_number h.please_ack h.last) (flags_small h.please_ack h.last);
+      ∙ le-ltb 3 (flags_number h.please_ack h.last) (flags_small h.please_ack h.last);
   reason =
       ap (λ (k : Kind). not (is_reason k (number_in xs reason_field))) (kind_said xs h len e)
-          ∙ ap (λ (n : ℕ). not (is_reason h.kind n)) (e.says reason_field)
-          ∙ not_true (is_reason h.kind h.reason) s.reason;
+      ∙ ap (λ (n : ℕ). not (is_reason h.kind n)) (e.says reason_field)
+      ∙ not_true (is_reason h.kind h.reason) s.reason;
   data_length =
       right_length (number_in xs data_length_field) (length xs - 32) len (e.says data_length_field)
-          (omega arith) s.data_length;
+      (omega arith) s.data_length;
   reserved = ap (λ (n : ℕ). not (n == 0)) (e.says reserved_field);
   short_fragment =
       ap (λ (k : Kind). is_short_fragment k (header_in xs).last (number_in xs data_length_field)) (kind_said xs h len e)
-          ∙ ap (λ (b : Bool). is_short_fragment h.kind b (number_in xs data_length_field)) (last_said xs h len e)
-          ∙ ap (λ (n : ℕ). is_short_fragment h.kind h.last n) (e.says data_length_field)
-          ∙ not_false (is_short_fragment h.kind h.last len) s.fullness;
+      ∙ ap (λ (b : Bool). is_short_fragment h.kind b (number_in xs data_length_field)) (last_said xs h len e)
+      ∙ ap (λ (n : ℕ). is_short_fragment h.kind h.last n) (e.says data_length_field)
+      ∙ not_false (is_short_fragment h.kind h.last len) s.fullness;
   fragment_number =
       ap (λ (n : ℕ). nat_le (unwrap_or (fragments_of n) 0) (number_in xs fragment_field)) (e.says version_field)
-          ∙ ap (λ (n : ℕ). nat_le 64 n) (e.says fragment_field)
-          ∙ lt-leb 64 h.fragment s.fragment;
+      ∙ ap (λ (n : ℕ). nat_le 64 n) (e.says fragment_field)
+      ∙ lt-leb 64 h.fragment s.fragment;
 }
 
 spelled_length : (h : Header) (len : ℕ) (d : List ℕ) → length (spelling h len ++ d) ≡ 32 + length d
@@ -172,7 +170,7 @@ unfolding read_of first_fault_from
 read_back h d f s =
     let xs : List ℕ = spelling h (length d) ++ d in
     let said : Says (spelling h (length d) ++ d) h (length d) =
-        record { says = λ field. field_back h (length d) d field (room h (length d) f s field) } in
+    record { says = λ field. field_back h (length d) d field (room h (length d) f s field) } in
     let none = none_applies xs (fault_free xs h (length d) said s (spelled_length h (length d) d)) in
     ap (read_or xs) none ∙ ap (λ (g : Header). Accepted g (drop 32 xs)) (header_said xs h (length d) said)
-        ∙ ap (λ (ys : List ℕ). Accepted h ys) (spelled_rest h (length d) d)
+    ∙ ap (λ (ys : List ℕ). Accepted h ys) (spelled_rest h (length d) d)

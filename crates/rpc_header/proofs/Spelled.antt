@@ -1,5 +1,5 @@
 -- What is read without a fault is the spelling of what it says.
-use Rattle.std.proofs.Common.{◌≡◌, ◌<◌, ◌≤◌, ◌+◌, ◌-◌, ◌^◌, ◌%◌, ◌&&◌, ◌||◌, not, ◌==◌, nat_lt, nat_le, nat_eq, ℕ, zero, suc, Bool, true, false, IsTrue, List, ◌++◌, length, take, drop, Option, Some, None, is_none, unwrap_or, refl, ap, sym, subst, ◌∙◌, arith, rules}
+use Rattle.std.proofs.Common.{◌≡◌, ◌<◌, ◌≤◌, ◌+◌, ◌-◌, ◌^◌, ◌%◌, ◌||◌, not, ◌==◌, nat_lt, ℕ, zero, suc, true, false, List, ◌++◌, length, take, drop, is_none, unwrap_or, refl, ap, sym, subst, ◌∙◌, arith}
 use Rattle.std.proofs.lemmas.List.{length-drop, drop-drop, take-append-drop}
 use Rattle.std.proofs.lemmas.Bool.{eqb-true, leb-false, ltb-false, or_parts}
 use Rattle.std.proofs.lemmas.Bool.Decides.{nat_tests}
@@ -7,15 +7,13 @@ use Rattle.std.proofs.Math.Nat.{mod-eq_of_lt}
 use Rattle.byteorder.specs.Endian.{big_bytes, big_number}
 use Rattle.byteorder.specs.Numbers.{big_from-lt}
 use Rattle.rpc_header.specs.declared.Header.{Header}
-use Rattle.rpc_header.specs.declared.Kind.{Kind}
 use Rattle.rpc_header.specs.declared.Kind.TheVariants.{Call}
-use Rattle.rpc_header.specs.declared.HeaderFault.TheVariants as fault
 use Rattle.rpc_header.specs.Versions.{fragments_of}
-use Rattle.rpc_header.specs.Fields.{Field, version_field, kind_field, flags_field, reason_field, machine_field, process_field, hint_field, call_number_field, fragment_field, identifier_field, index_field, procedure_field, data_length_field, reserved_field, place_of, kind_number, kind_of, flags_number, has_bit, is_reason}
-use Rattle.rpc_header.specs.Spelling.{HasSpelling, is_short_fragment, spelling, value_in}
-use Rattle.rpc_header.specs.Reading.{Accepted, applies, header_in, number_at, number_in, read_of}
+use Rattle.rpc_header.specs.Fields.{kind_number, kind_of, flags_number, has_bit}
+use Rattle.rpc_header.specs.Spelling.{HasSpelling, spelling}
+use Rattle.rpc_header.specs.Reading.{Accepted, applies, header_in, number_at, read_of}
 use Rattle.rpc_header.proofs.Bytes.{AreBytes, bytes-drop, bytes_of_number}
-use Rattle.rpc_header.proofs.Faults.{NoFault, IsAccepted, accepted, no_fault}
+use Rattle.rpc_header.proofs.Faults.{NoFault, accepted, no_fault}
 
 -- a field's bytes, and then what stands behind them
 field : (p n v : ℕ) (xs tail : List ℕ) → p + n ≤ length xs → AreBytes xs → v ≡ number_at p n xs
@@ -23,10 +21,10 @@ field : (p n v : ℕ) (xs tail : List ℕ) → p + n ≤ length xs → AreBytes 
 unfolding number_at
 field p n v xs tail room h value rest =
     let front : big_bytes n (big_number n (drop p xs)) ≡ take n (drop p xs) =
-        bytes_of_number n (drop p xs) (omega (arith, length-drop p xs)) (bytes-drop p xs h) in
+    bytes_of_number n (drop p xs) (omega (arith, length-drop p xs)) (bytes-drop p xs h) in
     let behind : drop (p + n) xs ≡ drop n (drop p xs) = sym (drop-drop n p xs) in
     ap (λ (m : ℕ). big_bytes n m ++ tail) value ∙ ap (λ (ys : List ℕ). ys ++ tail) front
-        ∙ ap (λ (ys : List ℕ). take n (drop p xs) ++ ys) (rest ∙ behind) ∙ take-append-drop n (drop p xs)
+    ∙ ap (λ (ys : List ℕ). take n (drop p xs) ++ ys) (rest ∙ behind) ∙ take-append-drop n (drop p xs)
 
 -- a known kind is spelled by its number
 kind_back : (n : ℕ) → is_none (kind_of n) ≡ false → kind_number (unwrap_or (kind_of n) Call) ≡ n
@@ -92,26 +90,26 @@ unfolding spelling
 spelled_front xs h n =
     let room : 32 ≤ length xs = long_enough xs n in
     field 0 1 1 xs _ (omega arith) h (version_front xs n)
-        (field 1 1 (kind_number (header_in xs).kind) xs _ (omega arith) h (kind_front xs n)
-        (field 2 1 (flags_number (header_in xs).please_ack (header_in xs).last) xs _ (omega arith) h (flags_front xs n)
-        (field 3 1 (number_at 3 1 xs) xs _ (omega arith) h refl
-        (field 4 4 (number_at 4 4 xs) xs _ (omega arith) h refl
-        (field 8 2 (number_at 8 2 xs) xs _ (omega arith) h refl
-        (field 10 2 (number_at 10 2 xs) xs _ (omega arith) h refl
-        (field 12 6 (number_at 12 6 xs % 2 ^ 48) xs _ (omega arith) h (number_back xs h)
-        (field 18 2 (number_at 18 2 xs) xs _ (omega arith) h refl
-        (field 20 4 (number_at 20 4 xs) xs _ (omega arith) h refl
-        (field 24 2 (number_at 24 2 xs) xs _ (omega arith) h refl
-        (field 26 2 (number_at 26 2 xs) xs _ (omega arith) h refl
-        (field 28 2 (length (drop 32 xs)) xs _ (omega arith) h (data_length_front xs n)
-        (field 30 2 0 xs (drop 32 xs) (omega arith) h (reserved_front xs n) refl)))))))))))))
+    (field 1 1 (kind_number (header_in xs).kind) xs _ (omega arith) h (kind_front xs n)
+    (field 2 1 (flags_number (header_in xs).please_ack (header_in xs).last) xs _ (omega arith) h (flags_front xs n)
+    (field 3 1 (number_at 3 1 xs) xs _ (omega arith) h refl
+    (field 4 4 (number_at 4 4 xs) xs _ (omega arith) h refl
+    (field 8 2 (number_at 8 2 xs) xs _ (omega arith) h refl
+    (field 10 2 (number_at 10 2 xs) xs _ (omega arith) h refl
+    (field 12 6 (number_at 12 6 xs % 2 ^ 48) xs _ (omega arith) h (number_back xs h)
+    (field 18 2 (number_at 18 2 xs) xs _ (omega arith) h refl
+    (field 20 4 (number_at 20 4 xs) xs _ (omega arith) h refl
+    (field 24 2 (number_at 24 2 xs) xs _ (omega arith) h refl
+    (field 26 2 (number_at 26 2 xs) xs _ (omega arith) h refl
+    (field 28 2 (length (drop 32 xs)) xs _ (omega arith) h (data_length_front xs n)
+    (field 30 2 0 xs (drop 32 xs) (omega arith) h (reserved_front xs n) refl)))))))))))))
 
 fragment_front : (xs : List ℕ) → NoFault xs → number_at 18 2 xs < 64
 unfolding applies
 fragment_front xs n =
     let limit : ℕ → ℕ = λ v. unwrap_or (fragments_of v) 0 in
     let below : number_at 18 2 xs < limit (number_at 0 1 xs) =
-        leb-false (limit (number_at 0 1 xs)) (number_at 18 2 xs) n.fragment_number in
+    leb-false (limit (number_at 0 1 xs)) (number_at 18 2 xs) n.fragment_number in
     subst (λ (v : ℕ). number_at 18 2 xs < limit v) (sym (version_front xs n)) below
 
 has_spelling : (xs : List ℕ) → NoFault xs → HasSpelling (header_in xs) (length (drop 32 xs))
@@ -133,5 +131,5 @@ spelled xs h d bytes e =
     let n = no_fault xs told.none in
     let P : Header → Type 0 = λ g. HasSpelling g (length d) × (xs ≡ spelling g (length d) ++ d) in
     let Q : List ℕ → Type 0 =
-        λ ys. HasSpelling (header_in xs) (length ys) × (xs ≡ spelling (header_in xs) (length ys) ++ ys) in
+    λ ys. HasSpelling (header_in xs) (length ys) × (xs ≡ spelling (header_in xs) (length ys) ++ ys) in
     subst P told.header (subst Q told.rest (has_spelling xs n, sym (spelled_front xs bytes n)))

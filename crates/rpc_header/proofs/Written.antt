@@ -1,12 +1,12 @@
 -- Writing the rows of a header one after the other makes its spelling.
-use Rattle.std.proofs.Common.{◌≡◌, ◌<◌, ◌≤◌, ◌+◌, ◌-◌, ◌%◌, ◌^◌, ℕ, suc, List, [], ◌∷◌, ◌++◌, length, take, drop, set, refl, ap, sym, subst, ◌∙◌, arith, length-append, IsTrue}
-use Rattle.std.proofs.lemmas.List.{append_assoc, drop-drop, length-drop, length-take, take_all, take-append-drop, take_at}
+use Rattle.std.proofs.Common.{◌≡◌, ◌≤◌, ◌+◌, ◌-◌, ◌%◌, ℕ, List, [], ◌∷◌, ◌++◌, length, take, drop, set, refl, ap, sym, ◌∙◌, arith, length-append}
+use Rattle.std.proofs.lemmas.List.{append_assoc, length-drop, length-take, take_all, take_at}
 use Rattle.std.proofs.Math.Nat.{mod-eq_of_lt}
 use borrow.Rule.Slice.PartMut.{put_mid, mid_of, post_of, same_len_mid}
 use Rattle.byteorder.specs.Endian.{big_bytes}
 use Rattle.byteorder.specs.Numbers.{length-bytes_high_first}
 use Rattle.rpc_header.specs.declared.Header.{Header}
-use Rattle.rpc_header.specs.Fields.{kind_number, flags_number, is_reason}
+use Rattle.rpc_header.specs.Fields.{kind_number, flags_number}
 use Rattle.rpc_header.specs.Spelling.{HasSpelling, spelling}
 use Rattle.rpc_header.proofs.Ranges.{flags_small, kind_small, reason_small}
 
@@ -33,19 +33,19 @@ next_row p n v xs ys buf f room e =
     let row : List ℕ = big_bytes n v in
     let row_len : length (big_bytes n v) ≡ n = length-bytes_high_first n v in
     let mid_len : length (mid_of p (32 - p) xs) ≡ 32 - p =
-        omega (arith, f.size, length-take (32 - p) (drop p xs), length-drop p xs) in
+    omega (arith, f.size, length-take (32 - p) (drop p xs), length-drop p xs) in
     let buf_len : length buf ≡ length (mid_of p (32 - p) xs) =
-        ap length e ∙ length-append (big_bytes n v) (drop n mid) ∙ omega (arith, row_len, mid_len, length-drop n mid) in
+    ap length e ∙ length-append (big_bytes n v) (drop n mid) ∙ omega (arith, row_len, mid_len, length-drop n mid) in
     let shape : put_mid p (32 - p) xs buf ≡ (take p xs ++ row) ++ (drop n mid ++ post) =
-        ap (λ (zs : List ℕ). take p xs ++ (zs ++ post)) e
-            ∙ ap (λ (zs : List ℕ). take p xs ++ zs) (append_assoc row (drop n mid) post)
-            ∙ sym (append_assoc (take p xs) row (drop n mid ++ post)) in
+    ap (λ (zs : List ℕ). take p xs ++ (zs ++ post)) e
+    ∙ ap (λ (zs : List ℕ). take p xs ++ zs) (append_assoc row (drop n mid) post)
+    ∙ sym (append_assoc (take p xs) row (drop n mid ++ post)) in
     let front_len : length (take p xs ++ row) ≡ p + n =
-        length-append (take p xs) row ∙ omega (arith, f.size, row_len, length-take p xs) in
+    length-append (take p xs) row ∙ omega (arith, f.size, row_len, length-take p xs) in
     record {
       front =
           ap (take (p + n)) shape ∙ take_at (take p xs ++ row) (drop n mid ++ post) (p + n) front_len
-              ∙ ap (λ (zs : List ℕ). zs ++ row) f.front;
+          ∙ ap (λ (zs : List ℕ). zs ++ row) f.front;
       size = same_len_mid p (32 - p) xs buf buf_len ∙ f.size;
     }
 
@@ -57,9 +57,9 @@ all_rows xs ys f = sym (take_all 32 xs (omega (arith, f.size))) ∙ f.front
 unfoldable pub rows : (h : Header) (len kind flags reason : ℕ) → List ℕ
 rows h len kind flags reason =
     ((((((((((1 ∷ kind ∷ flags ∷ reason ∷ []) ++ big_bytes 4 h.call.activity.machine)
-        ++ big_bytes 2 h.call.activity.process) ++ big_bytes 2 h.hint) ++ big_bytes 6 h.call.number.value)
-        ++ big_bytes 2 h.fragment) ++ big_bytes 4 h.export.identifier) ++ big_bytes 2 h.export.index)
-        ++ big_bytes 2 h.procedure) ++ big_bytes 2 len) ++ big_bytes 2 0
+    ++ big_bytes 2 h.call.activity.process) ++ big_bytes 2 h.hint) ++ big_bytes 6 h.call.number.value)
+    ++ big_bytes 2 h.fragment) ++ big_bytes 4 h.export.identifier) ++ big_bytes 2 h.export.index)
+    ++ big_bytes 2 h.procedure) ++ big_bytes 2 len) ++ big_bytes 2 0
 
 rows_of : (h : Header) (len : ℕ) → rows h len (kind_number h.kind % 256) (flags_number h.please_ack h.last % 256) (h.reason % 256) ≡ spelling h len
 unfolding spelling rows
@@ -72,10 +72,10 @@ pub written : (h : Header) (len kind flags : ℕ) (xs : List ℕ) → HasSpellin
 written h len kind flags xs s same_kind same_flags f =
     let kind_mod : kind ≡ kind_number h.kind % 256 = same_kind ∙ sym (mod-eq_of_lt (kind_small h.kind)) in
     let flags_mod : flags ≡ flags_number h.please_ack h.last % 256 =
-        same_flags ∙ sym (mod-eq_of_lt (omega (arith, flags_small h.please_ack h.last))) in
+    same_flags ∙ sym (mod-eq_of_lt (omega (arith, flags_small h.please_ack h.last))) in
     let reason_mod : h.reason ≡ h.reason % 256 = sym (mod-eq_of_lt (reason_small h.kind h.reason s.reason)) in
     all_rows xs (rows h len kind flags h.reason) f
-        ∙ ap (λ (n : ℕ). rows h len n flags h.reason) kind_mod
-        ∙ ap (λ (n : ℕ). rows h len (kind_number h.kind % 256) n h.reason) flags_mod
-        ∙ ap (λ (n : ℕ). rows h len (kind_number h.kind % 256) (flags_number h.please_ack h.last % 256) n) reason_mod
-        ∙ rows_of h len
+    ∙ ap (λ (n : ℕ). rows h len n flags h.reason) kind_mod
+    ∙ ap (λ (n : ℕ). rows h len (kind_number h.kind % 256) n h.reason) flags_mod
+    ∙ ap (λ (n : ℕ). rows h len (kind_number h.kind % 256) (flags_number h.please_ack h.last % 256) n) reason_mod
+    ∙ rows_of h len

@@ -1,16 +1,12 @@
 -- How bytes are read as a packet header with its data behind it.
-use Rattle.std.specs.Prelude.{ℕ, ◌≡◌, ◌≤◌, ◌<◌, ◌+◌, ◌-◌, ◌^◌, ◌%◌, ◌&&◌, ◌||◌, not, nat_lt, nat_le, ◌==◌, Bool, is_none, List, [], ◌∷◌, length, drop, find, Option, Some, None, unwrap_or}
+use Rattle.std.specs.Prelude.{ℕ, ◌-◌, ◌^◌, ◌%◌, ◌||◌, not, nat_lt, nat_le, ◌==◌, Bool, is_none, List, [], ◌∷◌, length, drop, find, Option, Some, None, unwrap_or}
 use Rattle.std.proofs.Math.Nat.{mod-lt}
 use Rattle.std.proofs.Common.{lit<}
 use Rattle.byteorder.specs.Endian.{big_number}
 use Rattle.rpc_header.specs.declared.Header.{Header}
 use Rattle.rpc_header.specs.declared.CallNumber.{CallNumber}
-use Rattle.rpc_header.specs.declared.CallId.{CallId}
-use Rattle.rpc_header.specs.declared.Activity.{Activity}
-use Rattle.rpc_header.specs.declared.Export.{Export}
 use Rattle.rpc_header.specs.declared.HeaderFault.{HeaderFault}
 use Rattle.rpc_header.specs.declared.HeaderFault.TheVariants as fault
-use Rattle.rpc_header.specs.declared.Kind.{Kind}
 use Rattle.rpc_header.specs.declared.Kind.TheVariants.{Call}
 use Rattle.rpc_header.specs.Versions.{fragments_of}
 use Rattle.rpc_header.specs.Fields.{Field, version_field, kind_field, flags_field, reason_field, machine_field, process_field, hint_field, call_number_field, fragment_field, identifier_field, index_field, procedure_field, data_length_field, reserved_field, place_of, kind_of, has_bit, is_reason}

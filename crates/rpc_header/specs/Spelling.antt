@@ -1,5 +1,5 @@
 -- How a packet header is spelled: 32 bytes, each number with its highest byte first.
-use Rattle.std.specs.Prelude.{ℕ, ◌≡◌, ◌≤◌, ◌<◌, ◌^◌, ◌&&◌, ◌||◌, not, nat_lt, nat_le, ◌==◌, Bool, IsTrue, List, flat_map, unwrap_or}
+use Rattle.std.specs.Prelude.{ℕ, ◌≤◌, ◌<◌, ◌^◌, ◌&&◌, not, ◌==◌, Bool, IsTrue, List, flat_map, unwrap_or}
 use Rattle.byteorder.specs.Endian.{big_bytes}
 use Rattle.rpc_header.specs.declared.Header.{Header}
 use Rattle.rpc_header.specs.declared.Kind.{Kind}

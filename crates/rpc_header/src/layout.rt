@@ -24,18 +24,31 @@ pub(crate) const LAST: u8 = 2;
 /// The place of each field's first byte.
 pub(crate) mod place {
     pub const VERSION: usize = 0;
+
     pub const KIND: usize = 1;
+
     pub const FLAGS: usize = 2;
+
     pub const REASON: usize = 3;
+
     pub const MACHINE: usize = 4;
+
     pub const PROCESS: usize = 8;
+
     pub const HINT: usize = 10;
+
     pub const CALL_NUMBER: usize = 12;
+
     pub const FRAGMENT: usize = 18;
+
     pub const IDENTIFIER: usize = 20;
+
     pub const INDEX: usize = 24;
+
     pub const PROCEDURE: usize = 26;
+
     pub const DATA_LENGTH: usize = 28;
+
     pub const RESERVED: usize = 30;
 }
 

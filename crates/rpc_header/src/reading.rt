@@ -6,7 +6,10 @@ ghost use Rattle.rpc_header.specs.Spelling.{HasSpelling, spelling};
 ghost use Rattle.rpc_header.specs.Versions.{fragments_of};
 ghost use Rattle.rpc_header.specs.Reading.{Accepted, Refused, call_number_of, first_fault_from, header_in, number_at, number_in, read_of};
 
-use crate::layout::{HEADER_LEN, LAST, PLEASE_ACK, fragments_of_version, is_short, is_wrong_length, kind_of_byte, may_give, place};
+use crate::layout::{
+    HEADER_LEN, LAST, PLEASE_ACK, fragments_of_version, is_short, is_wrong_length, kind_of_byte,
+    may_give, place,
+};
 use crate::{Activity, CallId, CallNumber, Export, Header, HeaderFault, Kind};
 use byteorder::{BigEndian, ByteOrder};
 
@@ -144,7 +147,12 @@ fn data_len_of(bytes: &[u8]) -> Result<usize, HeaderFault>
 
 /// Looks for a fault of the fragment: a piece that isn't full, or a number out of range.
 #[tactic(auto, unfolding(crate::specs::Reading::applies, crate::specs::Reading::first_fault_from))]
-fn check_fragment(bytes: &[u8], fragments: u16, kind: Kind, data_len: usize) -> Result<(), HeaderFault>
+fn check_fragment(
+    bytes: &[u8],
+    fragments: u16,
+    kind: Kind,
+    data_len: usize,
+) -> Result<(), HeaderFault>
     requires room { 32 ≤ length bytes.now }
     requires fragments { Some fragments ≡ fragments_of (number_in bytes.now version_field) }
     requires kind { kind ≡ (header_in bytes.now).kind }

@@ -4,8 +4,10 @@ ghost use Rattle.std.specs.Prelude.{◌≡◌, ◌↔◌, ◌++◌, IsTrue, List
 ghost use Rattle.rpc_header.specs.Reading.{Accepted, read_of};
 ghost use Rattle.rpc_header.specs.Spelling.{FitsFields, HasSpelling, spelling};
 
-use crate::layout::{MAX_DATA, VERSION, flags_byte, fragments_of_version, is_short, kind_byte, may_give, place};
 use crate::Header;
+use crate::layout::{
+    MAX_DATA, VERSION, flags_byte, fragments_of_version, is_short, kind_byte, may_give, place,
+};
 use byteorder::{BigEndian, ByteOrder};
 
 /// Whether the header of a packet with this many bytes of data has a spelling: its kind may give the

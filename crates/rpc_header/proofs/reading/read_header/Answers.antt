@@ -1,5 +1,5 @@
 -- The parts of the reader look for the faults in their order: a fault that a part found is the first of all.
-use Rattle.std.proofs.Common.{◌≡◌, ◌∙◌, sym, arith}
+use Rattle.std.proofs.Common.{◌∙◌, sym, arith}
 use Rattle.std.proofs.lemmas.Result.{err_from_is_err_and}
 use Rattle.rpc_header.proofs.Faults.{accepted_read, refused_read}
 use Rattle.rpc_header.proofs.Spelled.{spelled}
@@ -20,7 +20,7 @@ returns-in_err-check_fragment-clause-read c =
     let r = c.from_residual-in_err-check_fragment in
     let p = err_from_is_err_and r.result r.ensures.1 in
     rw (p.1, p.2) (refused_read _ _
-        (c.in_ok-fragments.ensures.faults ∙ c.in_ok-data_len.ensures.faults ∙ c.in_err-check_fragment.ensures))
+    (c.in_ok-fragments.ensures.faults ∙ c.in_ok-data_len.ensures.faults ∙ c.in_err-check_fragment.ensures))
 
 pub returns-clause-has_spelling : goal.returns-clause-has_spelling
 returns-clause-has_spelling c =

@@ -11,7 +11,7 @@ reads_back : (h : Header) (len : ℕ) (xs d : List ℕ) → FitsFields h → Has
 reads_back h len xs d f s spelled size =
     let P : ℕ → Type 0 = λ n. HasSpelling h n in
     ap (λ (ys : List ℕ). read_of (ys ++ d)) (spelled ∙ ap (spelling h) (sym size))
-        ∙ read_back h d f (subst P (sym size) s)
+    ∙ read_back h d f (subst P (sym size) s)
 
 pub returns-clause-reads_back : goal.returns-clause-reads_back
 returns-clause-reads_back c =
