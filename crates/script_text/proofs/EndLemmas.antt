@@ -1,5 +1,5 @@
 -- Where the end stands among the events.
-use Rattle.std.proofs.Common.{◌≡◌, ℕ, suc, ◌<◌, ◌+◌, List, [], ◌∷◌, length, Option, Some, None, ap, arith, sym, refl, ◌∙◌}
+use Rattle.std.proofs.Common.{◌≡◌, ◌+◌, List, [], ◌∷◌, length, arith, refl}
 use Rattle.std.specs.List.{position_or_len}
 use Rattle.replay_model.specs.Script.{EndsOnce}
 use Rattle.replay_model.specs.declared.event.Event.{Event}

@@ -12,8 +12,8 @@ split_has_a_part : (p : ℕ → Bool) (text : List ℕ) → (part : List ℕ) ×
 split_has_a_part p [] = ([], [], refl)
 split_has_a_part p (b ∷ bs) =
     elim (p b) as (λ t. (part : List ℕ) × (parts : List (List ℕ)) × (cond t ([] ∷ slice_split p bs) (onto_first b (slice_split p bs)) ≡ part ∷ parts)) [
-      true ↦ ([], slice_split p bs, refl)
-    | false ↦ let h = split_has_a_part p bs in (b ∷ h.0, h.1, ap (onto_first b) h.2)
+      | true ↦ ([], slice_split p bs, refl)
+      | false ↦ let h = split_has_a_part p bs in (b ∷ h.0, h.1, ap (onto_first b) h.2)
     ]
 
 -- where no element is cut at, the list is the one part
@@ -21,8 +21,8 @@ split_whole : (p : ℕ → Bool) (xs : List ℕ) → length xs ≤ position_or_l
 split_whole p [] h = refl
 split_whole p (x ∷ xs) h =
     elim (p x) as (λ t. length (x ∷ xs) ≤ cond (not t) (1 + position_or_len p xs) 0 → cond t ([] ∷ slice_split p xs) (onto_first x (slice_split p xs)) ≡ (x ∷ xs) ∷ []) [
-      true ↦ λ k. absurd (omega arith)
-    | false ↦ λ k. ap (onto_first x) (split_whole p xs (omega arith))
+      | true ↦ λ k. absurd (omega arith)
+      | false ↦ λ k. ap (onto_first x) (split_whole p xs (omega arith))
     ] h
 
 more_lines : (line part : List ℕ) (parts all : List (List ℕ)) → all ≡ part ∷ parts → without_empty_end (line ∷ all) ≡ line ∷ without_empty_end all

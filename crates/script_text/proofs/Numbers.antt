@@ -1,11 +1,11 @@
 -- What `parse` reads of a word, against the numbers of a script.
-use Rattle.std.proofs.Common.{◌≡◌, ℕ, zero, suc, ◌<◌, ◌≤◌, ◌^◌, ◌≢◌, List, length, get_or, drop, Result, Ok, Err, Some, None, MatchResult, ap, arith, inl, inr, sym, ◌∙◌, length-drop}
+use Rattle.std.proofs.Common.{◌≡◌, ℕ, zero, suc, ◌<◌, ◌^◌, ◌≢◌, List, length, get_or, drop, Result, Ok, Err, Some, None, MatchResult, ap, arith, inl, inr, sym, ◌∙◌, length-drop}
 use Rattle.std.proofs.lemmas.Result.{OkIff-at_ok}
 use Rattle.std.specs.Fmt.{decimal}
 use Rattle.std.specs.Result.{result_ok}
 use Rattle.std.specs.Int.{IsInRange}
 use Rattle.std.specs.Str.{IsUtf8}
-use Rattle.std.specs.Str.Parse.{ParsesUnsigned, AllDigits, digits_value, IsNumeral, without_leading_plus}
+use Rattle.std.specs.Str.Parse.{ParsesUnsigned, AllDigits, digits_value}
 use Rattle.std.proofs.lemmas.Str.{IsUtf8-from_ascii}
 use Rattle.std.proofs.lemmas.Str.Parse.{IsNumeralModel, numerals_by_value, tells_digits, parse_plain, parse_plus, digit_at}
 use Rattle.std.proofs.lemmas.Fmt.{decimal_digit, first_decimal, decimal_is_IsNumeral, parse-decimal, decimal-digits_value, IsAscii-decimal}

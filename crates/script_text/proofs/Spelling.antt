@@ -1,5 +1,5 @@
 -- What a line that spells an event is made of.
-use Rattle.std.proofs.Common.{◌≡◌, ◌≢◌, ℕ, ◌<◌, ◌≤◌, ◌+◌, ◌*◌, ◌^◌, List, [], ◌∷◌, length, get_or, drop, ap, arith, sym, refl, ◌∙◌}
+use Rattle.std.proofs.Common.{◌≡◌, ◌≢◌, ℕ, ◌<◌, ◌+◌, ◌^◌, List, [], ◌∷◌, length, get_or, drop, ap, arith, sym, refl, ◌∙◌}
 use Rattle.std.specs.Prelude.{codes}
 use Rattle.std.proofs.lemmas.Fmt.{decimal_injective}
 use Rattle.replay_model.specs.Script.{IsNumber, Spells, SpellsCall}
@@ -53,11 +53,11 @@ unfolding Parts
 unknown_spells_nothing ws first more same unknown e h =
     let begins : get_or ws 0 [] ≡ first = ap (λ (us : List (List ℕ)). get_or us 0 []) same in
     elim e as (λ d. Parts ws d → ⊥) [
-      event.Call m p w ↦ λ k. unknown verb.Call (sym begins ∙ k.1)
-    | event.Deliver n ↦ λ k. unknown verb.Deliver (sym begins ∙ k.1)
-    | event.Work n ↦ λ k. unknown verb.Work (sym begins ∙ k.1)
-    | event.Journal ↦ λ k. unknown verb.Journal (sym begins ∙ k.1)
-    | event.End ↦ λ k. unknown verb.End (sym begins ∙ k.1)
+      | event.Call m p w ↦ λ k. unknown verb.Call (sym begins ∙ k.1)
+      | event.Deliver n ↦ λ k. unknown verb.Deliver (sym begins ∙ k.1)
+      | event.Work n ↦ λ k. unknown verb.Work (sym begins ∙ k.1)
+      | event.Journal ↦ λ k. unknown verb.Journal (sym begins ∙ k.1)
+      | event.End ↦ λ k. unknown verb.End (sym begins ∙ k.1)
     ] (parts ws e h)
 
 -- the events that a line may spell are in range
@@ -65,11 +65,11 @@ pub spelled_in_range : (ws : List (List ℕ)) (e : Event) → Spells ws e → In
 unfolding Parts
 spelled_in_range ws e h =
     elim e as (λ d. Parts ws d → InRange d) [
-      event.Call m p w ↦ λ k. (k.2.at_least, k.2.at_most, k.3.at_least, k.3.at_most)
-    | event.Deliver n ↦ λ k. (k.2.at_least, k.2.at_most)
-    | event.Work n ↦ λ k. (k.2.at_least, k.2.at_most)
-    | event.Journal ↦ λ k. tt
-    | event.End ↦ λ k. tt
+      | event.Call m p w ↦ λ k. (k.2.at_least, k.2.at_most, k.3.at_least, k.3.at_most)
+      | event.Deliver n ↦ λ k. (k.2.at_least, k.2.at_most)
+      | event.Work n ↦ λ k. (k.2.at_least, k.2.at_most)
+      | event.Journal ↦ λ k. tt
+      | event.End ↦ λ k. tt
     ] (parts ws e h)
 
 same_number : (w : List ℕ) (low high m n : ℕ) → high < 2 ^ 64 → IsNumber w low high m → IsNumber w low high n → m ≡ n

@@ -8,6 +8,7 @@ mod rules;
 mod script;
 
 pub use fault::ScriptFault;
+pub use line::{FIRST_CLIENT, LAST_CLIENT, LAST_PROCESS, LAST_WORKER};
 pub use script::{LONG_BUFFERS, SMALL_BUFFERS, Script, one_reading, parse_script};
 
 #[cfg(test)]

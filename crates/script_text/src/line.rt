@@ -10,14 +10,17 @@ use crate::number::{number, small_number};
 use replay_model::{CallWord, Event};
 use std::alloc::{AllocError, Global};
 
-/// The lowest and the highest number of a client.
-const CLIENTS: (u8, u8) = (2, 9);
+/// Machines 2 to 9 are clients. Machine 1 is the server.
+pub const FIRST_CLIENT: u8 = 2;
 
-/// The lowest and the highest number of a client's process.
-const PROCESSES: (u8, u8) = (1, 8);
+/// The last client.
+pub const LAST_CLIENT: u8 = 9;
 
-/// The lowest and the highest number of a worker.
-const WORKERS: (u8, u8) = (1, 4);
+/// The last process of a client. Processes are numbered from 1.
+pub const LAST_PROCESS: u8 = 8;
+
+/// The last worker of the server. Workers are numbered from 1.
+pub const LAST_WORKER: u8 = 4;
 
 /// What the first word of a line says.
 #[derive(Clone, Copy)]
@@ -61,12 +64,12 @@ pub fn event_of(words: &[&[u8]]) -> Option<Event>
     let (first, others) = words.split_first()?;
     match (verb_of(first)?, others) {
         (Verb::Call, [machine, process, asked @ ..]) => Some(Event::Call {
-            machine: small_number(machine, CLIENTS.0, CLIENTS.1)?,
-            process: small_number(process, PROCESSES.0, PROCESSES.1)?,
+            machine: small_number(machine, FIRST_CLIENT, LAST_CLIENT)?,
+            process: small_number(process, 1, LAST_PROCESS)?,
             word: call_word_of(asked)?,
         }),
         (Verb::Deliver, [packet]) => Some(Event::Deliver(number(packet, 1, u32::MAX)?)),
-        (Verb::Work, [worker]) => Some(Event::Work(small_number(worker, WORKERS.0, WORKERS.1)?)),
+        (Verb::Work, [worker]) => Some(Event::Work(small_number(worker, 1, LAST_WORKER)?)),
         (Verb::Journal, []) => Some(Event::Journal),
         (Verb::End, []) => Some(Event::End),
         _ => None,

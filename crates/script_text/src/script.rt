@@ -1,6 +1,5 @@
 //! Scripts, and how their texts are read.
 ghost use Rattle.std.specs.Prelude.{◌≡◌, ◌+◌, ◌-◌, ◌^◌, ◌<◌, ◌≤◌, ◌⊎◌, ℕ, List, [], ◌∷◌, map, length, IfOk, IfErr, MatchOption, All, position, vec_len};
-ghost use Rattle.script_text.specs.declared.fault.TheConstants.ScriptFault as fault;
 ghost use Rattle.script_text.specs.InRange.{InRange};
 ghost use Rattle.script_text.specs.Reading.{script_of, ReadsAs};
 ghost use Rattle.replay_model.specs.Script.{IsScript, Script as Scripted, lines_of_text, is_newline};
@@ -34,8 +33,8 @@ pub struct Script {
 pub fn parse_script(alloc: Global, text: &[u8]) -> Result<Script, ScriptFault>
     requires { length text.now < 2 ^ 32 - 1 }
     ensures accepted { IfOk result (λ s. IsScript text.now (script_of s)) }
-    ensures refused { result ≡ Err fault.BAD_TEXT → (s : Scripted) → IsScript text.now s → ⊥ }
-    ensures faults { IfErr result (λ e. (e ≡ fault.BAD_TEXT) ⊎ (e ≡ fault.MEMORY)) }
+    ensures refused { result ≡ Err ScriptFault.BAD_TEXT → (s : Scripted) → IsScript text.now s → ⊥ }
+    ensures faults { IfErr result (λ e. (e ≡ ScriptFault.BAD_TEXT) ⊎ (e ≡ ScriptFault.MEMORY)) }
 
     // What those that play the events may rely on.
     ensures in_range { IfOk result (λ s. All InRange s.events) }
@@ -55,14 +54,13 @@ pub fn parse_script(alloc: Global, text: &[u8]) -> Result<Script, ScriptFault>
 /// No text is two scripts.
 pub fn one_reading()
     ensures { (text : List ℕ) (a b : Scripted) → IsScript text a → IsScript text b → a ≡ b }
-{
-}
+{}
 
 /// The event of each line.
 fn read_events(alloc: Global, text: &[u8]) -> Result<Vec<Event>, ScriptFault>
     ensures read { IfOk result (λ v. ReadsAs text.now v.items) }
-    ensures refused { result ≡ Err fault.BAD_TEXT → (es : List Event) → ReadsAs text.now es → ⊥ }
-    ensures faults { IfErr result (λ e. (e ≡ fault.BAD_TEXT) ⊎ (e ≡ fault.MEMORY)) }
+    ensures refused { result ≡ Err ScriptFault.BAD_TEXT → (es : List Event) → ReadsAs text.now es → ⊥ }
+    ensures faults { IfErr result (λ e. (e ≡ ScriptFault.BAD_TEXT) ⊎ (e ≡ ScriptFault.MEMORY)) }
     ensures few { IfOk result (λ v. vec_len v ≤ length text.now) }
 {
     let mut events = Vec::new(alloc);

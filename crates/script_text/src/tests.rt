@@ -3,7 +3,8 @@ use crate::{ScriptFault, parse_script};
 use replay_model::{CallWord, Event};
 use std::test::Fail;
 
-const EMPTY_CALL: &[u8] = b"call 2 1 null\ndeliver 1\nwork 1\nwork 1\nwork 1\nwork 1\ndeliver 2\njournal\nend\n";
+const EMPTY_CALL: &[u8] =
+    b"call 2 1 null\ndeliver 1\nwork 1\nwork 1\nwork 1\nwork 1\ndeliver 2\njournal\nend\n";
 
 #[test]
 fn the_empty_call_is_read(rt: HostRuntime) -> Result<(), Fail> {
@@ -32,7 +33,10 @@ fn the_empty_call_is_read(rt: HostRuntime) -> Result<(), Fail> {
 
 #[test]
 fn blanks_may_be_several_and_stand_at_both_ends(rt: HostRuntime) -> Result<(), Fail> {
-    let script = parse_script(rt.alloc(), b" \tcall \t9   8\tnull \t\n\tdeliver\t4294967295\nwork  4\n end")?;
+    let script = parse_script(
+        rt.alloc(),
+        b" \tcall \t9   8\tnull \t\n\tdeliver\t4294967295\nwork  4\n end",
+    )?;
     let call = Event::Call {
         machine: 9,
         process: 8,

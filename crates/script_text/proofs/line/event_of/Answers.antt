@@ -1,5 +1,5 @@
 -- A line that begins with no known word spells nothing.
-use Rattle.std.proofs.Common.{map, ap}
+use Rattle.std.proofs.Common.{ap}
 use Rattle.script_text.proofs.Spelling.{unknown_spells_nothing}
 use Rattle.script_text.specs.Words.{texts}
 use Rattle.script_text.proofs.line.event_of.Goals as goal

@@ -11,6 +11,6 @@ returns c =
     let from = c.filter.ensures.source in
     let split = c.split.ensures in
     map_from_collect _ c.collect.ensures.ran
-        (YieldsList-from_filter _ (λ (w : List ℕ). not (length w == 0))
-            (YieldsList-from_slice_split _ is_blank c.args.line.now (ap split_rest from ∙ split.rest) (ap split_done from ∙ split.done) (ap split_callee from ∙ split.closure) (λ x b q k. search rules))
-            c.filter.ensures.closure (λ x b q k. search rules))
+    (YieldsList-from_filter _ (λ (w : List ℕ). not (length w == 0))
+    (YieldsList-from_slice_split _ is_blank c.args.line.now (ap split_rest from ∙ split.rest) (ap split_done from ∙ split.done) (ap split_callee from ∙ split.closure) (λ x b q k. search rules))
+    c.filter.ensures.closure (λ x b q k. search rules))

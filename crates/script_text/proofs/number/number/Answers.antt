@@ -1,5 +1,5 @@
 -- A word is refused where it does not begin plainly, is no text, is no number for `parse`, or is out of range.
-use Rattle.std.proofs.Common.{◌≡◌, ℕ, IsTrue, Ok, arith}
+use Rattle.std.proofs.Common.{◌≡◌, IsTrue, arith}
 use Rattle.std.specs.Str.Parse.{ParsesUnsigned}
 use Rattle.std.proofs.lemmas.Result.{MatchResult-at_ok}
 use Rattle.script_text.proofs.Numbers.{number_begins_plainly, number_is_text, number_parses, parsed_is_decimal, ok_is, not_ok, refused_text}

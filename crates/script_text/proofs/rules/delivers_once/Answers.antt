@@ -1,7 +1,6 @@
 -- No packet comes twice just where the sorted packets rise.
-use Rattle.std.proofs.Common.{◌≡◌, ℕ, Bool, IsTrue, rules}
-use Rattle.std.specs.Prelude.{nat_eq, nat_lt}
-use Rattle.std.specs.List.{IsDistinct, IsAllAdjacentAnswer}
+use Rattle.std.proofs.Common.{rules}
+use Rattle.std.specs.Prelude.{nat_lt}
 use Rattle.std.proofs.lemmas.Fn.{always_returns_same}
 use Rattle.script_text.proofs.Packets.{once_from_true, true_from_once}
 use Rattle.script_text.proofs.rules.delivers_once.Goals as goal
@@ -14,5 +13,5 @@ returns c =
     let answer = rw c.deref.ensures.value at told in
     rw (← c.in_ok-packets.ensures) (
       once_from_true packets sorted c.sort_unstable.ensures.permutation c.is_sorted_by.result answer,
-      true_from_once packets sorted c.sort_unstable.ensures.permutation c.is_sorted_by.result answer c.sort_unstable.ensures.sorted
+      true_from_once packets sorted c.sort_unstable.ensures.permutation c.is_sorted_by.result answer c.sort_unstable.ensures.sorted,
     )

@@ -1,5 +1,5 @@
 -- The end is the last event just where the first end is the last event.
-use Rattle.std.proofs.Common.{◌≡◌, ◌<◌, ◌≤◌, ◌+◌, length, arith, sym, ◌∙◌, false}
+use Rattle.std.proofs.Common.{arith, sym, ◌∙◌}
 use Rattle.std.proofs.lemmas.Bool.{eqb-true, eq-eqb}
 use Rattle.script_text.specs.Ends.{is_end}
 use Rattle.script_text.proofs.EndLemmas.{ends_where_last, last_where_ends}

@@ -1,8 +1,7 @@
 -- A line that spells an event is one more that is read, and one that spells none is never read.
-use Rattle.std.proofs.Common.{◌≡◌, ◌+◌, ◌≤◌, Option, Some, None, Ok, Err, IfSome, IfNone, List, length, vec_len, arith, subst}
+use Rattle.std.proofs.Common.{◌≡◌, Option, Some, None, Ok, Err, IfSome, IfNone, arith, subst}
 use Rattle.std.specs.Option.{ok_or}
-use Rattle.replay_model.specs.Script.{Spells, words_of}
-use Rattle.replay_model.specs.declared.event.Event.{Event}
+use Rattle.replay_model.specs.Script.{words_of}
 use Rattle.script_text.specs.Words.{texts}
 use Rattle.script_text.proofs.Readings.{more_read, never_read}
 use Rattle.script_text.proofs.script.read_events.Goals as goal
