@@ -1,0 +1,5 @@
+pub mod Ends
+pub mod InRange
+pub mod Number
+pub mod Reading
+pub mod Words
