@@ -5,7 +5,7 @@ use Rattle.std.proofs.lemmas.List.{append-nil, append_assoc}
 use Rattle.std.proofs.lemmas.List.Elements.{All-cons, All-nil}
 use Rattle.replay_model.specs.Script.{Script, IsScript, Spells, words_of, lines_of_text}
 use Rattle.replay_model.specs.declared.event.Event.{Event}
-use Rattle.script_text.specs.InRange.{InRange}
+use Rattle.replay_model.specs.Script.{InRange}
 use Rattle.script_text.specs.Reading.{ReadsAs}
 use Rattle.script_text.proofs.Spelling.{same_event, spelled_in_range}
 

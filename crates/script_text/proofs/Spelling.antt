@@ -7,7 +7,7 @@ use Rattle.replay_model.specs.declared.event.CallWord.{CallWord}
 use Rattle.replay_model.specs.declared.event.CallWord.TheVariants as word
 use Rattle.replay_model.specs.declared.event.Event.{Event}
 use Rattle.replay_model.specs.declared.event.Event.TheVariants as event
-use Rattle.script_text.specs.InRange.{InRange}
+use Rattle.replay_model.specs.Script.{InRange}
 use Rattle.script_text.specs.Words.{text_of}
 use Rattle.script_text.specs.declared.line.Verb.{Verb}
 use Rattle.script_text.specs.declared.line.Verb.TheVariants as verb

@@ -1,6 +1,6 @@
 //! Scripts, and how their texts are read.
 ghost use Rattle.std.specs.Prelude.{◌≡◌, ◌+◌, ◌-◌, ◌^◌, ◌<◌, ◌≤◌, ◌⊎◌, ℕ, List, [], ◌∷◌, map, length, IfOk, IfErr, MatchOption, All, position, vec_len};
-ghost use Rattle.script_text.specs.InRange.{InRange};
+ghost use Rattle.replay_model.specs.Script.{InRange};
 ghost use Rattle.script_text.specs.Reading.{script_of, ReadsAs};
 ghost use Rattle.replay_model.specs.Script.{IsScript, Script as Scripted, lines_of_text, is_newline};
 ghost use Rattle.replay_model.specs.declared.event.Event.{Event};
