@@ -1,0 +1,6 @@
+pub mod Accepting
+pub mod Changed
+pub mod Damaged
+pub mod Flipping
+pub mod OnesComplement
+pub mod Written
