@@ -88,6 +88,13 @@ ethernet_checks bytes me =
     ∷ (NotIp, ethernet_type bytes == 0x0800)
     ∷ []
 
+-- the source is 10.0.0.s of a machine s, and the destination 10.0.0.me
+abbrev pub is_between_machines : List ℕ → ℕ → Bool
+is_between_machines bytes me =
+    nat_le 1 (source_machine bytes) && nat_le (source_machine bytes) 254
+    && bytes_eq (source_address bytes) (internet_address (source_machine bytes))
+    && bytes_eq (destination_address bytes) (internet_address me)
+
 abbrev pub internet_checks : List ℕ → ℕ → Checks
 internet_checks bytes me =
     (Version, version bytes == 4)
@@ -96,13 +103,8 @@ internet_checks bytes me =
     ∷ (IpFragment, (flags_and_offset bytes == 0) || (flags_and_offset bytes == 0x4000))
     ∷ (NotUdp, protocol bytes == 17)
     ∷ (IpChecksum, csum (internet_header bytes) == 65535)
-    ∷ (Address, is_machine (source_machine bytes)
-        && bytes_eq (source_address bytes) (internet_address (source_machine bytes))
-        && bytes_eq (destination_address bytes) (internet_address me))
+    ∷ (Address, is_between_machines bytes me)
     ∷ []
-  where
-    is_machine : ℕ → Bool
-    is_machine m = nat_le 1 m && nat_le m 254
 
 abbrev pub udp_checks : List ℕ → Checks
 udp_checks bytes =

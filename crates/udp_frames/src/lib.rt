@@ -2,7 +2,11 @@
 //! around data in place, and frames read and checked.
 #![tactic(auto)]
 
+mod address;
 mod fault;
+mod layout;
 pub mod laws;
+mod read;
 
 pub use fault::FrameFault;
+pub use read::{Seen, read_frame};
