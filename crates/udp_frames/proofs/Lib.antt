@@ -1,4 +1,5 @@
 pub mod Accepting
+pub mod Assembled
 pub mod Changed
 pub mod Damaged
 pub mod Faults

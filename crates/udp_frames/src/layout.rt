@@ -26,8 +26,10 @@ pub(crate) const PAYLOAD: usize = 42;
 
 /// The lengths of the headers.
 pub(crate) const ETHERNET_LEN: usize = 14;
-pub(crate) const INTERNET_LEN: u16 = 20;
-pub(crate) const UDP_LEN: u16 = 8;
+pub(crate) const INTERNET_LEN: usize = 20;
+pub(crate) const UDP_LEN: usize = 8;
+/// The length of what the UDP checksum covers in front of the UDP header.
+pub(crate) const PSEUDO_LEN: usize = 12;
 
 /// The Ethernet type of an IP datagram.
 pub(crate) const TYPE_IP: u16 = 0x0800;

@@ -7,6 +7,8 @@ mod fault;
 mod layout;
 pub mod laws;
 mod read;
+mod write;
 
 pub use fault::FrameFault;
 pub use read::{Seen, read_frame};
+pub use write::{LARGEST_PAYLOAD, write_headers};

@@ -114,8 +114,9 @@ fn check_udp(frame: &[u8]) -> Result<(), FrameFault>
 {
     let ports = number_at(frame, SOURCE_PORT) == PORT && number_at(frame, DESTINATION_PORT) == PORT;
     accept(ports, FrameFault::Port)?;
-    let udp_length = number_at(frame, TOTAL_LENGTH).saturating_sub(INTERNET_LEN);
-    accept(number_at(frame, UDP_LENGTH) == udp_length, FrameFault::UdpLength)?;
+    let udp_length = usize::from(number_at(frame, UDP_LENGTH));
+    let total_length = usize::from(number_at(frame, TOTAL_LENGTH));
+    accept(udp_length == total_length.saturating_sub(INTERNET_LEN), FrameFault::UdpLength)?;
     accept(number_at(frame, UDP_CHECKSUM) != 0, FrameFault::NoChecksum)?;
     accept(udp_sum(frame) == RIGHT_SUM, FrameFault::UdpChecksum)?;
     Ok(())
