@@ -43,28 +43,48 @@ no_fault [] all = refl
 no_fault ((fault, passes) ∷ rows) all = rw all.0 (no_fault rows all.1)
 
 ethernet_passes : (bytes : List ℕ) (me : ℕ) → IsFrameFor bytes me → AllPass (ethernet_checks bytes me)
-ethernet_passes bytes me is =
-    (same_bytes (ethernet_destination bytes) (ethernet_address me) is.for_us,
-    (eq-eqb (ethernet_type bytes) 0x0800 is.ip, tt))
+ethernet_passes bytes me is = (
+  same_bytes (ethernet_destination bytes) (ethernet_address me) is.for_us,
+  (eq-eqb (ethernet_type bytes) 0x0800 is.ip, tt),
+)
 
 internet_passes : (bytes : List ℕ) (me : ℕ) → IsFrameFor bytes me → AllPass (internet_checks bytes me)
-internet_passes bytes me is =
-    (eq-eqb (version bytes) 4 is.version_4,
-    (eq-eqb (header_length bytes) 5 is.no_options,
-    (and_from _ _ (eq-eqb (total_length bytes) (length bytes - 14) is.whole) (le-leb 28 (total_length bytes) (omega (arith, is.whole, is.long))),
-    (or_left (eqb (flags_and_offset bytes) 0) (eqb (flags_and_offset bytes) 0x4000) (eq-eqb (flags_and_offset bytes) 0 is.unfragmented),
-    (eq-eqb (protocol bytes) 17 is.udp,
-    (eq-eqb (csum (internet_header bytes)) 65535 is.internet_sum,
-    (and_from _ _ (and_from _ _ (and_from _ _ (le-leb 1 (source_machine bytes) is.sender.0) (le-leb (source_machine bytes) 254 is.sender.1))
-        (same_bytes (source_address bytes) (internet_address (source_machine bytes)) is.source))
-        (same_bytes (destination_address bytes) (internet_address me) is.destination), tt)))))))
+internet_passes bytes me is = (
+  eq-eqb (version bytes) 4 is.version_4,
+  (
+    eq-eqb (header_length bytes) 5 is.no_options,
+    (
+      and_from _ _ (eq-eqb (total_length bytes) (length bytes - 14) is.whole) (le-leb 28 (total_length bytes) (omega (arith, is.whole, is.long))),
+      (
+        or_left (eqb (flags_and_offset bytes) 0) (eqb (flags_and_offset bytes) 0x4000) (eq-eqb (flags_and_offset bytes) 0 is.unfragmented),
+        (
+          eq-eqb (protocol bytes) 17 is.udp,
+          (
+            eq-eqb (csum (internet_header bytes)) 65535 is.internet_sum,
+            (
+              and_from _ _ (and_from _ _ (and_from _ _ (le-leb 1 (source_machine bytes) is.sender.0) (le-leb (source_machine bytes) 254 is.sender.1))
+                  (same_bytes (source_address bytes) (internet_address (source_machine bytes)) is.source))
+                  (same_bytes (destination_address bytes) (internet_address me) is.destination),
+              tt,
+            ),
+          ),
+        ),
+      ),
+    ),
+  ),
+)
 
 udp_passes : (bytes : List ℕ) (me : ℕ) → IsFrameFor bytes me → AllPass (udp_checks bytes)
-udp_passes bytes me is =
-    (and_from _ _ (eq-eqb (source_port bytes) port is.from_port) (eq-eqb (destination_port bytes) port is.to_port),
-    (eq-eqb (udp_length bytes) (total_length bytes - 20) is.datagram_length,
-    (not_from_false (eqb (udp_checksum bytes) 0) (ne_eqb (udp_checksum bytes) 0 is.checksum),
-    (eq-eqb (csum (pseudo_header bytes ++ udp_datagram bytes)) 65535 is.udp_sum, tt))))
+udp_passes bytes me is = (
+  and_from _ _ (eq-eqb (source_port bytes) port is.from_port) (eq-eqb (destination_port bytes) port is.to_port),
+  (
+    eq-eqb (udp_length bytes) (total_length bytes - 20) is.datagram_length,
+    (
+      not_from_false (eqb (udp_checksum bytes) 0) (ne_eqb (udp_checksum bytes) 0 is.checksum),
+      (eq-eqb (csum (pseudo_header bytes ++ udp_datagram bytes)) 65535 is.udp_sum, tt),
+    ),
+  ),
+)
 
 AllPass-append : (xs ys : Checks) → AllPass xs → AllPass ys → AllPass (xs ++ ys)
 AllPass-append [] ys all_xs all_ys = all_ys
@@ -73,11 +93,11 @@ AllPass-append ((fault, passes) ∷ xs) ys all_xs all_ys = (all_xs.0, AllPass-ap
 pub reads-frame : (bytes : List ℕ) (me : ℕ) → IsFrameFor bytes me → reads bytes me ≡ Ok (record { sender = source_machine bytes; payload = drop 42 bytes })
 reads-frame bytes me is =
     let ethernet : AllPass ((Short, leb 42 (length bytes)) ∷ ethernet_checks bytes me) =
-        (le-leb 42 (length bytes) is.long, ethernet_passes bytes me is) in
+    (le-leb 42 (length bytes) is.long, ethernet_passes bytes me is) in
     let internet : AllPass (((Short, leb 42 (length bytes)) ∷ ethernet_checks bytes me) ++ internet_checks bytes me) =
-        AllPass-append ((Short, leb 42 (length bytes)) ∷ ethernet_checks bytes me) (internet_checks bytes me) ethernet (internet_passes bytes me is) in
+    AllPass-append ((Short, leb 42 (length bytes)) ∷ ethernet_checks bytes me) (internet_checks bytes me) ethernet (internet_passes bytes me is) in
     let all : AllPass (checks bytes me) =
-        AllPass-append (((Short, leb 42 (length bytes)) ∷ ethernet_checks bytes me) ++ internet_checks bytes me) (udp_checks bytes) internet (udp_passes bytes me is) in
+    AllPass-append (((Short, leb 42 (length bytes)) ∷ ethernet_checks bytes me) ++ internet_checks bytes me) (udp_checks bytes) internet (udp_passes bytes me is) in
     rw (no_fault (checks bytes me) all) refl
 
 -- a row whose test fails

@@ -83,12 +83,12 @@ udp_changed bytes me inner new is change pseudo =
     let moved : udp_datagram (set bytes (34 + inner) new) ≡ set (udp_datagram bytes) inner new = drop-set-add 34 bytes inner new in
     let place : front + inner - front ≡ inner = omega arith in
     let whole : set (pseudo_header bytes ++ udp_datagram bytes) (front + inner) new ≡ pseudo_header bytes ++ set (udp_datagram bytes) inner new =
-        set-append_right (pseudo_header bytes) (udp_datagram bytes) front (front + inner) new refl (omega arith)
-        ∙ ap (λ (n : ℕ). pseudo_header bytes ++ set (udp_datagram bytes) n new) place in
+    set-append_right (pseudo_header bytes) (udp_datagram bytes) front (front + inner) new refl (omega arith)
+    ∙ ap (λ (n : ℕ). pseudo_header bytes ++ set (udp_datagram bytes) n new) place in
     let before : get_or (pseudo_header bytes ++ udp_datagram bytes) (front + inner) 0 ≡ get_or bytes (34 + inner) 0 =
-        get_or-append-add (pseudo_header bytes) (udp_datagram bytes) inner 0 ∙ get_or-drop 34 bytes inner 0 in
+    get_or-append-add (pseudo_header bytes) (udp_datagram bytes) inner 0 ∙ get_or-drop 34 bytes inner 0 in
     let len : length (pseudo_header bytes ++ udp_datagram bytes) ≡ front + (length bytes - 34) =
-        length-append (pseudo_header bytes) (udp_datagram bytes) ∙ ap (λ (n : ℕ). front + n) (length-drop 34 bytes) in
+    length-append (pseudo_header bytes) (udp_datagram bytes) ∙ ap (λ (n : ℕ). front + n) (length-drop 34 bytes) in
     let apart = csum-set (pseudo_header bytes ++ udp_datagram bytes) (front + inner) new (omega (arith, change.within)) (omega (arith, change.old_fits)) change.new_fits (λ same. change.differs (same ∙ before)) is.udp_sum in
     rw (pseudo, moved, ← whole) apart
 
@@ -96,14 +96,14 @@ udp_changed bytes me inner new is change pseudo =
 pseudo_same : (bytes : List ℕ) (inner new : ℕ) → (inner < 4) ⊎ (6 ≤ inner) → pseudo_header (set bytes (34 + inner) new) ≡ pseudo_header bytes
 pseudo_same bytes inner new side =
     let source : part 26 4 (set bytes (34 + inner) new) ≡ part 26 4 bytes =
-        ap (λ (n : ℕ). part 26 4 (set bytes n new)) (let e : 34 + inner ≡ 26 + 4 + (4 + inner) = omega arith in e) ∙ part_in_front bytes 26 4 (4 + inner) new in
+    ap (λ (n : ℕ). part 26 4 (set bytes n new)) (let e : 34 + inner ≡ 26 + 4 + (4 + inner) = omega arith in e) ∙ part_in_front bytes 26 4 (4 + inner) new in
     let destination : part 30 4 (set bytes (34 + inner) new) ≡ part 30 4 bytes =
-        ap (λ (n : ℕ). part 30 4 (set bytes n new)) (let e : 34 + inner ≡ 30 + 4 + inner = omega arith in e) ∙ part_in_front bytes 30 4 inner new in
+    ap (λ (n : ℕ). part 30 4 (set bytes n new)) (let e : 34 + inner ≡ 30 + 4 + inner = omega arith in e) ∙ part_in_front bytes 30 4 inner new in
     let udp_len : part 38 2 (set bytes (34 + inner) new) ≡ part 38 2 bytes =
-        elim side [
-          | inl front ↦ part_behind bytes 38 2 (34 + inner) new (omega arith)
-          | inr back ↦ ap (λ (n : ℕ). part 38 2 (set bytes n new)) (let e : 34 + inner ≡ 38 + 2 + (inner - 6) = omega arith in e) ∙ part_in_front bytes 38 2 (inner - 6) new
-        ] in
+    elim side [
+      | inl front ↦ part_behind bytes 38 2 (34 + inner) new (omega arith)
+      | inr back ↦ ap (λ (n : ℕ). part 38 2 (set bytes n new)) (let e : 34 + inner ≡ 38 + 2 + (inner - 6) = omega arith in e) ∙ part_in_front bytes 38 2 (inner - 6) new
+    ] in
     rw (source, destination, udp_len) refl
 
 type_refused : (bytes : List ℕ) (me place new : ℕ) → IsFrameFor bytes me → Changes bytes place new → (place ≡ 12) ⊎ (place ≡ 13) → IsRefused (set bytes place new) me
@@ -117,10 +117,10 @@ internet_refused bytes me inner new is change within =
 udp_length_refused : (bytes : List ℕ) (me place new : ℕ) → IsFrameFor bytes me → Changes bytes place new → (place ≡ 38) ⊎ (place ≡ 39) → IsRefused (set bytes place new) me
 udp_length_refused bytes me place new is change side =
     let total : total_length (set bytes place new) ≡ total_length bytes =
-        elim side [
-          | inl high ↦ number_same bytes 16 place new (omega arith) (omega arith)
-          | inr low ↦ number_same bytes 16 place new (omega arith) (omega arith)
-        ] in
+    elim side [
+      | inl high ↦ number_same bytes 16 place new (omega arith) (omega arith)
+      | inr low ↦ number_same bytes 16 place new (omega arith) (omega arith)
+    ] in
     refused_udp_length (set bytes place new) me
     (λ same. number_differs bytes 38 place new change side (same ∙ ap (λ (n : ℕ). n - 20) total ∙ sym is.datagram_length))
 
@@ -132,19 +132,19 @@ behind_type : (bytes : List ℕ) (me place new : ℕ) → IsFrameFor bytes me �
 behind_type bytes me place new is change back P =
     elim (cases_lt place 34) [
       | inl internet ↦
-        let e : place ≡ 14 + (place - 14) = omega arith in
-        let moved : Changes bytes (14 + (place - 14)) new = subst (λ (p : ℕ). Changes bytes p new) e change in
-        subst (λ (p : ℕ). IfOk (reads (set bytes p new) me) P) (sym e) (internet_refused bytes me (place - 14) new is moved (omega arith) P)
+          let e : place ≡ 14 + (place - 14) = omega arith in
+          let moved : Changes bytes (14 + (place - 14)) new = subst (λ (p : ℕ). Changes bytes p new) e change in
+          subst (λ (p : ℕ). IfOk (reads (set bytes p new) me) P) (sym e) (internet_refused bytes me (place - 14) new is moved (omega arith) P)
       | inr udp ↦
-        let e : place ≡ 34 + (place - 34) = omega arith in
-        let moved : Changes bytes (34 + (place - 34)) new = subst (λ (p : ℕ). Changes bytes p new) e change in
-        elim (cases_lt place 38) [
-          | inl ports ↦ subst (λ (p : ℕ). IfOk (reads (set bytes p new) me) P) (sym e) (udp_refused bytes me (place - 34) new is moved (inl (omega arith)) P)
-          | inr past_ports ↦ elim (cases_lt place 40) [
+          let e : place ≡ 34 + (place - 34) = omega arith in
+          let moved : Changes bytes (34 + (place - 34)) new = subst (λ (p : ℕ). Changes bytes p new) e change in
+          elim (cases_lt place 38) [
+            | inl ports ↦ subst (λ (p : ℕ). IfOk (reads (set bytes p new) me) P) (sym e) (udp_refused bytes me (place - 34) new is moved (inl (omega arith)) P)
+            | inr past_ports ↦ elim (cases_lt place 40) [
               | inl len ↦ udp_length_refused bytes me place new is change (grind arith) P
               | inr rest ↦ subst (λ (p : ℕ). IfOk (reads (set bytes p new) me) P) (sym e) (udp_refused bytes me (place - 34) new is moved (inr (omega arith)) P)
             ]
-        ]
+          ]
     ]
 
 pub one_change_refused : (bytes : List ℕ) (me place new : ℕ) → IsFrameFor bytes me → Changes bytes place new → (place < 6) ⊎ (12 ≤ place) → IsRefused (set bytes place new) me

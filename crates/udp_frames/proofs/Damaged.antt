@@ -43,16 +43,94 @@ finish_of-fits n =
     ]
 
 ethernet_bytes : (from to : ℕ) → IsMachine from → IsMachine to → AreBytes (ethernet_header from to)
-ethernet_bytes from to is_from is_to =
-    (lit< tt, (lit< tt, (lit< tt, (lit< tt, (lit< tt, (omega (arith, is_to.1),
-    (lit< tt, (lit< tt, (lit< tt, (lit< tt, (lit< tt, (omega (arith, is_from.1),
-    (lit< tt, (lit< tt, tt))))))))))))))
+ethernet_bytes from to is_from is_to = (
+  lit< tt,
+  (
+    lit< tt,
+    (
+      lit< tt,
+      (
+        lit< tt,
+        (
+          lit< tt,
+          (
+            omega (arith, is_to.1),
+            (
+              lit< tt,
+              (
+                lit< tt,
+                (
+                  lit< tt,
+                  (
+                    lit< tt,
+                    (
+                      lit< tt,
+                      (
+                        omega (arith, is_from.1),
+                        (lit< tt, (lit< tt, tt)),
+                      ),
+                    ),
+                  ),
+                ),
+              ),
+            ),
+          ),
+        ),
+      ),
+    ),
+  ),
+)
 
 internet_bytes : (from to total checksum : ℕ) → IsMachine from → IsMachine to → total < 65536 → checksum < 65536 → AreBytes (internet_header from to total checksum)
-internet_bytes from to total checksum is_from is_to total_fits checksum_fits =
-    (lit< tt, (lit< tt, (omega arith, (omega arith, (lit< tt, (lit< tt, (lit< tt, (lit< tt, (lit< tt, (lit< tt, (omega arith, (omega arith,
-    (lit< tt, (lit< tt, (lit< tt, (omega (arith, is_from.1),
-    (lit< tt, (lit< tt, (lit< tt, (omega (arith, is_to.1), tt))))))))))))))))))))
+internet_bytes from to total checksum is_from is_to total_fits checksum_fits = (
+  lit< tt,
+  (
+    lit< tt,
+    (
+      omega arith,
+      (
+        omega arith,
+        (
+          lit< tt,
+          (
+            lit< tt,
+            (
+              lit< tt,
+              (
+                lit< tt,
+                (
+                  lit< tt,
+                  (
+                    lit< tt,
+                    (
+                      omega arith,
+                      (
+                        omega arith,
+                        (
+                          lit< tt,
+                          (
+                            lit< tt,
+                            (
+                              lit< tt,
+                              (
+                                omega (arith, is_from.1),
+                                (lit< tt, (lit< tt, (lit< tt, (omega (arith, is_to.1), tt)))),
+                              ),
+                            ),
+                          ),
+                        ),
+                      ),
+                    ),
+                  ),
+                ),
+              ),
+            ),
+          ),
+        ),
+      ),
+    ),
+  ),
+)
 
 udp_bytes : (len checksum : ℕ) → len < 65536 → checksum < 65536 → AreBytes (udp_header len checksum)
 udp_bytes len checksum len_fits checksum_fits =
@@ -66,8 +144,8 @@ frame_bytes from to payload is_from is_to is_payload =
     let internet = internet_bytes from to total (internet_checksum from to total) is_from is_to (omega (arith, is_payload.0)) (omega arith) in
     let datagram = udp_bytes udp (udp_checksum from to udp payload) (omega (arith, is_payload.0)) (finish_of-fits (csum (pseudo_header from to udp ++ udp_header udp 0 ++ payload))) in
     let all : AreBytes (headers from to payload) =
-        AreBytes-append (ethernet_header from to ++ internet_header from to total (internet_checksum from to total)) (udp_header udp (udp_checksum from to udp payload))
-        (AreBytes-append (ethernet_header from to) (internet_header from to total (internet_checksum from to total)) ethernet internet) datagram in
+    AreBytes-append (ethernet_header from to ++ internet_header from to total (internet_checksum from to total)) (udp_header udp (udp_checksum from to udp payload))
+    (AreBytes-append (ethernet_header from to) (internet_header from to total (internet_checksum from to total)) ethernet internet) datagram in
     bytes_then (headers from to payload) payload all (payload_bytes payload is_payload)
 
 -- the frame with any Ethernet source is read
@@ -103,9 +181,9 @@ change_never_forges from to payload place new is_from is_to change =
     elim (cases_lt place 6) [
       | inl front ↦ one_change_refused (frame from to payload) to place new is change (inl front) (λ seen. seen ≡ record { sender = from; payload = payload })
       | inr past ↦ elim (cases_lt place 12) [
-          | inl source ↦ source_is_read from to payload place new is_from is_to past source
-          | inr back ↦ one_change_refused (frame from to payload) to place new is change (inr back) (λ seen. seen ≡ record { sender = from; payload = payload })
-        ]
+        | inl source ↦ source_is_read from to payload place new is_from is_to past source
+        | inr back ↦ one_change_refused (frame from to payload) to place new is change (inr back) (λ seen. seen ≡ record { sender = from; payload = payload })
+      ]
     ]
 
 pub flipped_bit_never_forges : (from to : ℕ) (payload : List ℕ) (bit : ℕ) → IsMachine from → IsMachine to → IsPayload payload →
@@ -117,7 +195,7 @@ flipped_bit_never_forges from to payload bit is_from is_to is_payload =
     let fits = frame_bytes from to payload is_from is_to is_payload place in
     elim (cases_lt place (length (frame from to payload))) [
       | inl within ↦
-        change_never_forges from to payload place (bit_xor old (128 / 2 ^ (bit % 8))) is_from is_to
-        (record { within = within; old_fits = fits; new_fits = xor_fits old (128 / 2 ^ (bit % 8)) fits mask.below; differs = xor_differs old (128 / 2 ^ (bit % 8)) mask.above })
+          change_never_forges from to payload place (bit_xor old (128 / 2 ^ (bit % 8))) is_from is_to
+          (record { within = within; old_fits = fits; new_fits = xor_fits old (128 / 2 ^ (bit % 8)) fits mask.below; differs = xor_differs old (128 / 2 ^ (bit % 8)) mask.above })
       | inr past ↦ rw (set_past (frame from to payload) place (bit_xor old (128 / 2 ^ (bit % 8))) past, written_is_read from to payload is_from is_to) refl
     ]

@@ -35,7 +35,7 @@ ethernet_fault bytes me fault long found =
 pub internet_fault : (bytes : List ℕ) (me : ℕ) (fault : FrameFault) → 42 ≤ length bytes → first_fault (ethernet_checks bytes me) ≡ None → first_fault (internet_checks bytes me) ≡ Some fault → reads bytes me ≡ Err fault
 internet_fault bytes me fault long ethernet found =
     let more : first_fault (internet_rows bytes me) ≡ Some fault =
-        first_fault-append_none (ethernet_rows bytes me) (internet_checks bytes me) (long_first bytes me long ∙ ethernet) ∙ found in
+    first_fault-append_none (ethernet_rows bytes me) (internet_checks bytes me) (long_first bytes me long ∙ ethernet) ∙ found in
     let all : first_fault (checks bytes me) ≡ Some fault = first_fault-append_some (internet_rows bytes me) (udp_checks bytes) fault more in
     rw all refl
 

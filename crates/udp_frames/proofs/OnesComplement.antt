@@ -16,9 +16,9 @@ full_reduced n full =
     elim (cases_eq (n % 65535) 0) [
       | inl divides ↦ divides
       | inr other ↦
-        let not_zero : n ≢ 0 = λ is_zero. other (omega arith) in
-        let value : n % 65535 ≡ 65535 = rw (ne_eqb n 0 not_zero, ne_eqb (n % 65535) 0 other) at full in
-        absurd (omega arith)
+          let not_zero : n ≢ 0 = λ is_zero. other (omega arith) in
+          let value : n % 65535 ≡ 65535 = rw (ne_eqb n 0 not_zero, ne_eqb (n % 65535) 0 other) at full in
+          absurd (omega arith)
     ]
 
 pub reduced-rem : (n : ℕ) → 0 < n % 65535 → reduced n ≡ n % 65535
@@ -30,11 +30,11 @@ pub complement-full : (n : ℕ) → 0 < n → reduced (n + (65535 - reduced n)) 
 complement-full n above =
     elim (cases_eq (n % 65535) 0) [
       | inl divides ↦
-        let full = reduced-full n above divides in
-        reduced-full (n + (65535 - reduced n)) (omega arith) (omega (arith, full))
+          let full = reduced-full n above divides in
+          reduced-full (n + (65535 - reduced n)) (omega arith) (omega (arith, full))
       | inr other ↦
-        let rest : reduced n ≡ n % 65535 = reduced-rem n (omega arith) in
-        reduced-full (n + (65535 - reduced n)) (omega arith) (omega (arith, rest))
+          let rest : reduced n ≡ n % 65535 = reduced-rem n (omega arith) in
+          reduced-full (n + (65535 - reduced n)) (omega arith) (omega (arith, rest))
     ]
 
 -- a total with the checksum field of its sum added
@@ -45,12 +45,12 @@ finish_of-full (suc m) =
     let n = suc m in
     elim (cases_eq (n % 65535) 0) [
       | inl divides ↦
-        let full : reduced n ≡ 65535 = reduced-full n (omega arith) divides in
-        rw full (reduced-full (n + 65535) (omega arith) (omega arith))
+          let full : reduced n ≡ 65535 = reduced-full n (omega arith) divides in
+          rw full (reduced-full (n + 65535) (omega arith) (omega arith))
       | inr other ↦
-        let rest : reduced n ≡ n % 65535 = reduced-rem n (omega arith) in
-        let field : finish_of (n % 65535) ≡ 65535 - n % 65535 = rw (ne_eqb (65535 - n % 65535) 0 (omega arith)) refl in
-        rw (rest, field) (reduced-full (n + (65535 - n % 65535)) (omega arith) (omega arith))
+          let rest : reduced n ≡ n % 65535 = reduced-rem n (omega arith) in
+          let field : finish_of (n % 65535) ≡ 65535 - n % 65535 = rw (ne_eqb (65535 - n % 65535) 0 (omega arith)) refl in
+          rw (rest, field) (reduced-full (n + (65535 - n % 65535)) (omega arith) (omega arith))
     ]
 
 -- two totals that differ, and by less than 65535

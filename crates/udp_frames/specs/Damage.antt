@@ -3,7 +3,7 @@ use Rattle.std.specs.Prelude.{◌≡◌, ℕ, ◌+◌, ◌-◌, ◌*◌, ◌/◌
 use Rattle.udp_frames.specs.Frame.{frame, IsMachine}
 use Rattle.udp_frames.specs.Reading.{Datagram, reads}
 
--- the largest length of data that a frame of 1514 bytes holds
+-- data that a frame of at most 1514 bytes carries
 abbrev pub IsPayload : List ℕ → Type 0
 IsPayload bytes = (length bytes ≤ 1472) × All (λ byte. byte < 256) bytes
 

@@ -22,38 +22,38 @@ port = 4003
 
 abbrev pub ethernet_header : (from to : ℕ) → List ℕ
 ethernet_header from to =
-    ethernet_address to             -- destination
-    ++ ethernet_address from        -- source
-    ++ two_bytes 0x0800             -- type: IP
+    ethernet_address to  -- destination
+    ++ ethernet_address from  -- source
+    ++ two_bytes 0x0800  -- type: IP
 
 abbrev pub internet_header : (from to total_length checksum : ℕ) → List ℕ
 internet_header from to total_length checksum =
-    0x45                            -- version 4, header length 5 words
-    ∷ 0x00                          -- type of service
-    ∷ two_bytes total_length        -- total length
-    ++ two_bytes 0                  -- identification
-    ++ two_bytes 0                  -- flags and fragment offset
-    ++ 64                           -- time to live
-    ∷ 17                            -- protocol: UDP
-    ∷ two_bytes checksum            -- header checksum
-    ++ internet_address from        -- source address
-    ++ internet_address to          -- destination address
+    0x45  -- version 4, header length 5 words
+    ∷ 0x00  -- type of service
+    ∷ two_bytes total_length  -- total length
+    ++ two_bytes 0  -- identification
+    ++ two_bytes 0  -- flags and fragment offset
+    ++ 64  -- time to live
+    ∷ 17  -- protocol: UDP
+    ∷ two_bytes checksum  -- header checksum
+    ++ internet_address from  -- source address
+    ++ internet_address to  -- destination address
 
 abbrev pub udp_header : (udp_length checksum : ℕ) → List ℕ
 udp_header udp_length checksum =
-    two_bytes port                  -- source port
-    ++ two_bytes port               -- destination port
-    ++ two_bytes udp_length         -- length
-    ++ two_bytes checksum           -- checksum
+    two_bytes port  -- source port
+    ++ two_bytes port  -- destination port
+    ++ two_bytes udp_length  -- length
+    ++ two_bytes checksum  -- checksum
 
 -- what the UDP checksum covers in front of the UDP header
 abbrev pub pseudo_header : (from to udp_length : ℕ) → List ℕ
 pseudo_header from to udp_length =
-    internet_address from           -- source address
-    ++ internet_address to          -- destination address
-    ++ 0                            -- zero
-    ∷ 17                            -- protocol: UDP
-    ∷ two_bytes udp_length          -- UDP length
+    internet_address from  -- source address
+    ++ internet_address to  -- destination address
+    ++ 0  -- zero
+    ∷ 17  -- protocol: UDP
+    ∷ two_bytes udp_length  -- UDP length
 
 -- the complement of the sum of an IP header whose checksum is 0
 abbrev pub internet_checksum : (from to total_length : ℕ) → ℕ

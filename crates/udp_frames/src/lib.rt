@@ -4,9 +4,11 @@
 
 mod address;
 mod fault;
-mod layout;
 pub mod laws;
+mod layout;
 mod read;
+#[cfg(test)]
+mod tests;
 mod write;
 
 pub use fault::FrameFault;

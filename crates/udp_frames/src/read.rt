@@ -4,13 +4,12 @@ ghost use Rattle.std.specs.Str.{bytes_eq};
 ghost use Rattle.lane_checksum.specs.PlainSum.{csum};
 ghost use Rattle.udp_frames.specs.Reading;
 
-use byteorder::{ByteOrder, NetworkEndian};
-use ff_io::Station;
-use lane_checksum::{add, sum};
-
 use crate::FrameFault;
 use crate::address::{ethernet_address, internet_address};
 use crate::layout::*;
+use byteorder::{ByteOrder, NetworkEndian};
+use ff_io::Station;
+use lane_checksum::{add, sum};
 
 /// What a frame says: who sent it, and the data that it carries, where they lie in the frame.
 #[derive(Clone, Copy, Debug, PartialEq, Eq)]
@@ -58,8 +57,14 @@ fn check_ethernet(frame: &[u8], me: Station) -> Result<(), FrameFault>
         (λ fault. Reading.first_fault (Reading.ethernet_checks frame.now me.machine) ≡ Some fault) }
 {
     let destination = &frame[ETHERNET_DESTINATION..ETHERNET_SOURCE];
-    accept(destination == ethernet_address(me).as_slice(), FrameFault::NotForUs)?;
-    accept(number_at(frame, ETHERNET_TYPE) == TYPE_IP, FrameFault::NotIp)?;
+    accept(
+        destination == ethernet_address(me).as_slice(),
+        FrameFault::NotForUs,
+    )?;
+    accept(
+        number_at(frame, ETHERNET_TYPE) == TYPE_IP,
+        FrameFault::NotIp,
+    )?;
     Ok(())
 }
 
@@ -71,10 +76,16 @@ fn check_internet(frame: &[u8], me: Station) -> Result<Station, FrameFault>
         (λ fault. Reading.first_fault (Reading.internet_checks frame.now me.machine) ≡ Some fault) }
 {
     let version_and_length = frame[VERSION_AND_LENGTH];
-    accept(version_and_length / 16 == VERSION_4, FrameFault::Version)?;
-    accept(version_and_length % 16 == HEADER_WORDS, FrameFault::Options)?;
+    accept(version_and_length >> 4 == VERSION_4, FrameFault::Version)?;
+    accept(
+        version_and_length & 0x0f == HEADER_WORDS,
+        FrameFault::Options,
+    )?;
     let total_length = usize::from(number_at(frame, TOTAL_LENGTH));
-    accept(total_length == frame.len() - INTERNET_HEADER, FrameFault::IpLength)?;
+    accept(
+        total_length == frame.len() - INTERNET_HEADER,
+        FrameFault::IpLength,
+    )?;
     let whole = matches!(number_at(frame, FLAGS_AND_OFFSET), 0 | DO_NOT_FRAGMENT);
     accept(whole, FrameFault::IpFragment)?;
     accept(frame[PROTOCOL] == PROTOCOL_UDP, FrameFault::NotUdp)?;
@@ -116,7 +127,10 @@ fn check_udp(frame: &[u8]) -> Result<(), FrameFault>
     accept(ports, FrameFault::Port)?;
     let udp_length = usize::from(number_at(frame, UDP_LENGTH));
     let total_length = usize::from(number_at(frame, TOTAL_LENGTH));
-    accept(udp_length == total_length.saturating_sub(INTERNET_LEN), FrameFault::UdpLength)?;
+    accept(
+        udp_length == total_length.saturating_sub(INTERNET_LEN),
+        FrameFault::UdpLength,
+    )?;
     accept(number_at(frame, UDP_CHECKSUM) != 0, FrameFault::NoChecksum)?;
     accept(udp_sum(frame) == RIGHT_SUM, FrameFault::UdpChecksum)?;
     Ok(())

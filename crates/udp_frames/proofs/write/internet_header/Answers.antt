@@ -6,4 +6,4 @@ pub returns : goal.returns
 returns c =
     let length_high = high_byte c.args.total_length (omega arith) in
     let checksum_high = high_byte c.args.checksum (omega arith) in
-    rw (c.to_be_bytes.ensures, c.to_be_bytes-2.ensures, length_high, checksum_high) refl
+    rw (c.to_be_bytes.ensures, c.to_be_bytes-2.ensures, c.internet_address.ensures, c.internet_address-2.ensures, length_high, checksum_high) refl
