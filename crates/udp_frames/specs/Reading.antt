@@ -123,6 +123,11 @@ abbrev pub first_fault : Checks → Option FrameFault
 first_fault [] = None
 first_fault ((fault, passes) ∷ rows) = if passes then first_fault rows else Some fault
 
+-- an answer that names the first fault of these rows, if there is one
+abbrev pub Finds : {T : Type 0} → Result T FrameFault → Checks → Type 0
+Finds (Ok _) rows = first_fault rows ≡ None
+Finds (Err fault) rows = first_fault rows ≡ Some fault
+
 abbrev pub reads_unless : Option FrameFault → List ℕ → Result Datagram FrameFault
 reads_unless None bytes = Ok (record { sender = source_machine bytes; payload = drop 42 bytes })
 reads_unless (Some fault) bytes = Err fault

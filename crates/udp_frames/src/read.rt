@@ -52,42 +52,31 @@ fn number_at(frame: &[u8], place: usize) -> u16
 /// Tests the Ethernet header.
 fn check_ethernet(frame: &[u8], me: Station) -> Result<(), FrameFault>
     requires { 42 ≤ length frame.now }
-    ensures { MatchResult result
-        (λ _. Reading.first_fault (Reading.ethernet_checks frame.now me.machine) ≡ None)
-        (λ fault. Reading.first_fault (Reading.ethernet_checks frame.now me.machine) ≡ Some fault) }
+    ensures { Reading.Finds result (Reading.ethernet_checks frame.now me.machine) }
 {
     let destination = &frame[ETHERNET_DESTINATION..ETHERNET_SOURCE];
-    accept(
-        destination == ethernet_address(me).as_slice(),
-        FrameFault::NotForUs,
-    )?;
-    accept(
-        number_at(frame, ETHERNET_TYPE) == TYPE_IP,
-        FrameFault::NotIp,
-    )?;
+    let for_us = destination == ethernet_address(me).as_slice();
+    accept(for_us, FrameFault::NotForUs)?;
+    let carries_ip = number_at(frame, ETHERNET_TYPE) == TYPE_IP;
+    accept(carries_ip, FrameFault::NotIp)?;
     Ok(())
 }
 
 /// Tests the IP header, and says who sent the frame.
 fn check_internet(frame: &[u8], me: Station) -> Result<Station, FrameFault>
     requires { 42 ≤ length frame.now }
-    ensures { MatchResult result
-        (λ from. (Reading.first_fault (Reading.internet_checks frame.now me.machine) ≡ None) × (from.machine ≡ Reading.source_machine frame.now))
-        (λ fault. Reading.first_fault (Reading.internet_checks frame.now me.machine) ≡ Some fault) }
+    ensures fault { Reading.Finds result (Reading.internet_checks frame.now me.machine) }
+    ensures from { IfOk result (λ from. from.machine ≡ Reading.source_machine frame.now) }
 {
     let version_and_length = frame[VERSION_AND_LENGTH];
     accept(version_and_length >> 4 == VERSION_4, FrameFault::Version)?;
-    accept(
-        version_and_length & 0x0f == HEADER_WORDS,
-        FrameFault::Options,
-    )?;
+    let no_options = version_and_length & 0x0f == HEADER_WORDS;
+    accept(no_options, FrameFault::Options)?;
     let total_length = usize::from(number_at(frame, TOTAL_LENGTH));
-    accept(
-        total_length == frame.len() - INTERNET_HEADER,
-        FrameFault::IpLength,
-    )?;
-    let whole = matches!(number_at(frame, FLAGS_AND_OFFSET), 0 | DO_NOT_FRAGMENT);
-    accept(whole, FrameFault::IpFragment)?;
+    let complete = total_length == frame.len() - INTERNET_HEADER;
+    accept(complete, FrameFault::IpLength)?;
+    let uncut = matches!(number_at(frame, FLAGS_AND_OFFSET), 0 | DO_NOT_FRAGMENT);
+    accept(uncut, FrameFault::IpFragment)?;
     accept(frame[PROTOCOL] == PROTOCOL_UDP, FrameFault::NotUdp)?;
     let header = &frame[INTERNET_HEADER..UDP_HEADER];
     accept(sum(header) == RIGHT_SUM, FrameFault::IpChecksum)?;
@@ -119,18 +108,14 @@ fn sender(frame: &[u8], me: Station) -> Option<Station>
 /// Tests the UDP header and the data.
 fn check_udp(frame: &[u8]) -> Result<(), FrameFault>
     requires { 42 ≤ length frame.now }
-    ensures { MatchResult result
-        (λ _. Reading.first_fault (Reading.udp_checks frame.now) ≡ None)
-        (λ fault. Reading.first_fault (Reading.udp_checks frame.now) ≡ Some fault) }
+    ensures { Reading.Finds result (Reading.udp_checks frame.now) }
 {
     let ports = number_at(frame, SOURCE_PORT) == PORT && number_at(frame, DESTINATION_PORT) == PORT;
     accept(ports, FrameFault::Port)?;
     let udp_length = usize::from(number_at(frame, UDP_LENGTH));
     let total_length = usize::from(number_at(frame, TOTAL_LENGTH));
-    accept(
-        udp_length == total_length.saturating_sub(INTERNET_LEN),
-        FrameFault::UdpLength,
-    )?;
+    let complete = udp_length == total_length.saturating_sub(INTERNET_LEN);
+    accept(complete, FrameFault::UdpLength)?;
     accept(number_at(frame, UDP_CHECKSUM) != 0, FrameFault::NoChecksum)?;
     accept(udp_sum(frame) == RIGHT_SUM, FrameFault::UdpChecksum)?;
     Ok(())

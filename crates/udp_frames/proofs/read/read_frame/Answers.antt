@@ -15,18 +15,18 @@ pub returns-in_err-from-clause-fault : goal.returns-in_err-from-clause-fault
 returns-in_err-from-clause-fault c =
     let long : 42 ≤ length c.args.buffer.now = leb-true 42 (length c.args.buffer.now) (c.in_ok-accept.ensures.ok.0 refl) in
     let p = err_from_is_err_and c.from_residual-in_err-from.result c.from_residual-in_err-from.ensures.1 in
-    rw (p.1, p.2) (internet_fault c.args.buffer.now c.args.me.machine c.in_err-from.field-0.0 long c.in_ok-check_ethernet.ensures c.in_err-from.ensures)
+    rw (p.1, p.2) (internet_fault c.args.buffer.now c.args.me.machine c.in_err-from.field-0.0 long c.in_ok-check_ethernet.ensures c.in_err-from.ensures.fault)
 
 pub returns-in_err-check_udp-clause-fault : goal.returns-in_err-check_udp-clause-fault
 returns-in_err-check_udp-clause-fault c =
     let long : 42 ≤ length c.args.buffer.now = leb-true 42 (length c.args.buffer.now) (c.in_ok-accept.ensures.ok.0 refl) in
     let p = err_from_is_err_and c.from_residual-in_err-check_udp.result c.from_residual-in_err-check_udp.ensures.1 in
     let internet = c.in_ok-from.ensures in
-    rw (p.1, p.2) (udp_fault c.args.buffer.now c.args.me.machine c.in_err-check_udp.field-0.0 long c.in_ok-check_ethernet.ensures internet.0 c.in_err-check_udp.ensures)
+    rw (p.1, p.2) (udp_fault c.args.buffer.now c.args.me.machine c.in_err-check_udp.field-0.0 long c.in_ok-check_ethernet.ensures internet.fault c.in_err-check_udp.ensures)
 
 pub returns-clause-seen : goal.returns-clause-seen
 returns-clause-seen c =
     let long : 42 ≤ length c.args.buffer.now = leb-true 42 (length c.args.buffer.now) (c.in_ok-accept.ensures.ok.0 refl) in
     let internet = c.in_ok-from.ensures in
-    rw (take_rest c.args.buffer.now 42, internet.1)
-    (no_fault c.args.buffer.now c.args.me.machine long c.in_ok-check_ethernet.ensures internet.0 c.in_ok-check_udp.ensures)
+    rw (take_rest c.args.buffer.now 42, internet.from)
+    (no_fault c.args.buffer.now c.args.me.machine long c.in_ok-check_ethernet.ensures internet.fault c.in_ok-check_udp.ensures)
