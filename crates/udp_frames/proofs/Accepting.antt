@@ -1,5 +1,5 @@
 -- When bytes are a frame for a machine, test by test, and that a test that fails refuses them.
-use Rattle.std.proofs.Common.{◌≡◌, ◌≢◌, ℕ, zero, suc, ◌+◌, ◌-◌, ◌*◌, ◌/◌, ◌%◌, ◌<◌, ◌≤◌, ◌⊎◌, Bool, true, false, cond, not, eqb, leb, List, [], ◌∷◌, ◌++◌, length, get_or, drop, Option, Some, None, Result, Ok, Err, refl, sym, ap, ◌∙◌, inl, inr, lit<, arith}
+use Rattle.std.proofs.Common.{◌≡◌, ◌≢◌, ℕ, zero, suc, ◌-◌, ◌<◌, ◌≤◌, true, false, eqb, leb, List, [], ◌∷◌, ◌++◌, length, get_or, drop, Option, Some, None, Ok, refl, lit<, arith}
 use Rattle.std.specs.Prelude.{IfOk, IsSome}
 use Rattle.std.specs.Str.{bytes_eq}
 use Rattle.std.proofs.lemmas.Bool.{eq-eqb, ne_eqb, le-leb, and_from, or_left, not_from_false, false_from_ne_true}
@@ -8,7 +8,7 @@ use Rattle.lane_checksum.specs.PlainSum.{csum}
 use Rattle.udp_frames.specs.declared.fault.FrameFault.{FrameFault}
 use Rattle.udp_frames.specs.declared.fault.FrameFault.TheVariants.{Short}
 use Rattle.udp_frames.specs.Frame.{ethernet_address, internet_address, port, IsMachine}
-use Rattle.udp_frames.specs.Reading.{Datagram, Checks, part, ethernet_destination, ethernet_type, version, header_length, total_length, flags_and_offset, protocol, source_address, destination_address, source_machine, source_port, destination_port, udp_length, udp_checksum, internet_header, pseudo_header, udp_datagram, ethernet_checks, internet_checks, udp_checks, checks, first_fault, reads_unless, reads}
+use Rattle.udp_frames.specs.Reading.{Datagram, Checks, ethernet_destination, ethernet_type, version, header_length, total_length, flags_and_offset, protocol, source_address, destination_address, source_machine, source_port, destination_port, udp_length, udp_checksum, internet_header, pseudo_header, udp_datagram, ethernet_checks, internet_checks, udp_checks, checks, first_fault, reads_unless, reads}
 
 -- what a frame for this machine is
 pub record IsFrameFor (bytes : List ℕ) (me : ℕ) : Type 0 where

@@ -1,5 +1,5 @@
 -- The headers that are written around data, put together.
-use Rattle.std.proofs.Common.{◌≡◌, ℕ, ◌+◌, ◌-◌, ◌*◌, ◌/◌, ◌%◌, ◌^◌, ◌<◌, ◌≤◌, List, [], ◌∷◌, ◌++◌, length, take, drop, Ok, refl, sym, ap, ◌∙◌, arith}
+use Rattle.std.proofs.Common.{◌≡◌, ℕ, ◌+◌, ◌/◌, ◌%◌, ◌<◌, ◌≤◌, List, ◌++◌, length, take, drop, Ok, refl, sym, ap, ◌∙◌, arith}
 use Rattle.std.proofs.lemmas.List.{length-take, length-drop, drop-drop, take_at, take-append-drop}
 use Rattle.udp_frames.specs.Frame.{ethernet_header, internet_header, udp_header, internet_checksum, udp_checksum, frame, IsMachine}
 use Rattle.udp_frames.specs.Reading.{reads}

@@ -1,13 +1,13 @@
 -- A frame with one byte changed, outside its Ethernet source, is refused.
-use Rattle.std.proofs.Common.{◌≡◌, ◌≢◌, ℕ, zero, suc, ◌+◌, ◌-◌, ◌*◌, ◌/◌, ◌%◌, ◌<◌, ◌≤◌, ◌⊎◌, List, [], ◌∷◌, ◌++◌, length, get_or, take, drop, refl, sym, ap, subst, ◌∙◌, inl, inr, arith}
+use Rattle.std.proofs.Common.{◌≡◌, ◌≢◌, ℕ, ◌+◌, ◌-◌, ◌<◌, ◌≤◌, ◌⊎◌, List, ◌++◌, length, get_or, take, drop, refl, sym, ap, subst, ◌∙◌, inl, inr, arith}
 use Rattle.std.specs.Prelude.{IfOk}
 use Rattle.std.proofs.lemmas.Bool.{cases_lt}
-use Rattle.std.proofs.lemmas.List.{length-set, length-take, length-drop, length-append, get_or-set_same, get_or-set_other, get_or-take, get_or-drop, get_or-append-add, take-set-le, drop-set-lt, drop-set-add, set-append_right}
+use Rattle.std.proofs.lemmas.List.{length-take, length-drop, length-append, get_or-set_same, get_or-set_other, get_or-take, get_or-drop, get_or-append-add, take-set-le, drop-set-lt, drop-set-add, set-append_right}
 use Rattle.std.proofs.Math.ListN.{set}
 use Rattle.std.proofs.Math.Seq.{take-set-lt}
 use Rattle.lane_checksum.specs.PlainSum.{csum}
 use Rattle.udp_frames.specs.Frame.{ethernet_address}
-use Rattle.udp_frames.specs.Reading.{number, part, ethernet_destination, ethernet_type, total_length, udp_length, internet_header, pseudo_header, udp_datagram, reads}
+use Rattle.udp_frames.specs.Reading.{number, part, ethernet_destination, ethernet_type, total_length, internet_header, pseudo_header, udp_datagram, reads}
 use Rattle.udp_frames.proofs.Accepting.{IsFrameFor, IsRefused, refused_not_for_us, refused_not_ip, refused_internet_sum, refused_udp_length, refused_udp_sum}
 use Rattle.udp_frames.proofs.OnesComplement.{csum-set}
 

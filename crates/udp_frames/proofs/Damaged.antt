@@ -1,16 +1,16 @@
 -- A frame that was written, with one bit flipped, never says anything else.
-use Rattle.std.proofs.Common.{◌≡◌, ◌≢◌, ℕ, zero, suc, ◌+◌, ◌-◌, ◌*◌, ◌/◌, ◌%◌, ◌^◌, ◌<◌, ◌≤◌, ◌⊎◌, List, [], ◌∷◌, ◌++◌, length, get_or, take, drop, Ok, refl, sym, ap, subst, ◌∙◌, inl, inr, arith, lit<}
+use Rattle.std.proofs.Common.{◌≡◌, ℕ, zero, suc, ◌+◌, ◌-◌, ◌/◌, ◌%◌, ◌^◌, ◌<◌, ◌≤◌, List, [], ◌∷◌, ◌++◌, length, get_or, Ok, refl, inl, inr, arith, lit<}
 use Rattle.std.specs.Prelude.{IfOk, bit_xor}
 use Rattle.std.proofs.lemmas.Bool.{cases_lt, cases_eq, ne_eqb, eq-eqb}
 use Rattle.std.proofs.lemmas.List.{get_or_past, set_past}
 use Rattle.std.proofs.Math.ListN.{set}
 use Rattle.lane_checksum.specs.PlainSum.{csum, finish_of}
 use Rattle.udp_frames.specs.Damage.{IsPayload, flipped}
-use Rattle.udp_frames.specs.Frame.{two_bytes, ethernet_header, internet_header, udp_header, pseudo_header, internet_checksum, udp_checksum, headers, frame, IsMachine}
-use Rattle.udp_frames.specs.Reading.{Datagram, reads}
-use Rattle.udp_frames.proofs.Accepting.{IsFrameFor, reads-frame}
+use Rattle.udp_frames.specs.Frame.{ethernet_header, internet_header, udp_header, pseudo_header, internet_checksum, udp_checksum, headers, frame, IsMachine}
+use Rattle.udp_frames.specs.Reading.{reads}
+use Rattle.udp_frames.proofs.Accepting.{reads-frame}
 use Rattle.udp_frames.proofs.Changed.{Changes, one_change_refused}
-use Rattle.udp_frames.proofs.Flipping.{xor_differs, xor_fits, IsMask, mask_of}
+use Rattle.udp_frames.proofs.Flipping.{xor_differs, xor_fits, mask_of}
 use Rattle.udp_frames.proofs.Written.{frame_via, IsFrameFor-frame_via}
 
 -- the header that is written is one of bytes

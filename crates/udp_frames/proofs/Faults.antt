@@ -1,9 +1,9 @@
 -- The first fault of a frame, header by header.
-use Rattle.std.proofs.Common.{◌≡◌, ℕ, ◌≤◌, true, false, leb, cond, List, [], ◌∷◌, ◌++◌, length, drop, Option, Some, None, Result, Ok, Err, refl, ◌∙◌}
+use Rattle.std.proofs.Common.{◌≡◌, ℕ, ◌≤◌, true, false, leb, List, [], ◌∷◌, ◌++◌, length, drop, Some, None, Ok, Err, refl, ◌∙◌}
 use Rattle.std.proofs.lemmas.Bool.{le-leb}
 use Rattle.udp_frames.specs.declared.fault.FrameFault.{FrameFault}
 use Rattle.udp_frames.specs.declared.fault.FrameFault.TheVariants.{Short}
-use Rattle.udp_frames.specs.Reading.{Checks, source_machine, ethernet_checks, internet_checks, udp_checks, checks, first_fault, reads_unless, reads}
+use Rattle.udp_frames.specs.Reading.{Checks, source_machine, ethernet_checks, internet_checks, udp_checks, checks, first_fault, reads}
 
 first_fault-append_none : (xs ys : Checks) → first_fault xs ≡ None → first_fault (xs ++ ys) ≡ first_fault ys
 first_fault-append_none [] ys none = refl

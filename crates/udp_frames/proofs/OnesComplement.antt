@@ -1,8 +1,8 @@
 -- What makes a one's complement sum 65535, and that one changed byte keeps it from being so.
-use Rattle.std.proofs.Common.{◌≡◌, ◌≢◌, ℕ, zero, suc, ◌+◌, ◌-◌, ◌*◌, ◌/◌, ◌%◌, ◌<◌, ◌≤◌, ◌⊎◌, Bool, true, false, cond, eqb, List, [], ◌∷◌, ◌++◌, length, get_or, refl, sym, ap, ◌∙◌, inl, inr, add-zero, arith}
-use Rattle.std.proofs.lemmas.Bool.{cases_eq, cases_order, eq-eqb, ne_eqb, eqb-true}
+use Rattle.std.proofs.Common.{◌≡◌, ◌≢◌, ℕ, zero, suc, ◌+◌, ◌-◌, ◌*◌, ◌%◌, ◌<◌, ◌⊎◌, List, [], ◌∷◌, length, get_or, refl, sym, inl, inr, add-zero, arith}
+use Rattle.std.proofs.lemmas.Bool.{cases_eq, cases_order, eq-eqb, ne_eqb}
 use Rattle.std.proofs.Math.ListN.{set}
-use Rattle.lane_checksum.specs.PlainSum.{words, total, word_total, reduced, csum, finish_of}
+use Rattle.lane_checksum.specs.PlainSum.{word_total, reduced, csum, finish_of}
 
 -- a total above 0 that 65535 divides
 pub reduced-full : (n : ℕ) → 0 < n → n % 65535 ≡ 0 → reduced n ≡ 65535

@@ -1,8 +1,8 @@
 -- The parts of a frame that the UDP checksum covers, as they are summed.
-use Rattle.std.proofs.Common.{◌≡◌, ℕ, zero, suc, ◌+◌, ◌-◌, ◌%◌, ◌<◌, ◌≤◌, List, [], ◌∷◌, ◌++◌, length, get_or, take, drop, refl, sym, ap, ◌∙◌, arith}
+use Rattle.std.proofs.Common.{◌≡◌, ℕ, zero, suc, ◌<◌, ◌≤◌, List, [], ◌∷◌, ◌++◌, length, get_or, take, drop, refl, sym, ap, ◌∙◌, arith}
 use Rattle.std.proofs.lemmas.List.{length-take, length-drop, drop-drop}
 use Rattle.std.proofs.Math.Seq.{take-add}
-use Rattle.udp_frames.specs.Reading.{part, pseudo_header, udp_datagram}
+use Rattle.udp_frames.specs.Reading.{part, pseudo_header}
 
 -- a part of two bytes
 part_two : (bytes : List ℕ) (place : ℕ) → suc place < length bytes → part place 2 bytes ≡ get_or bytes place 0 ∷ get_or bytes (suc place) 0 ∷ []

@@ -1,8 +1,8 @@
 -- The frame that is written, whatever its Ethernet source, is a frame for its receiver.
-use Rattle.std.proofs.Common.{◌≡◌, ◌≢◌, ℕ, zero, suc, ◌+◌, ◌-◌, ◌*◌, ◌/◌, ◌%◌, ◌<◌, ◌≤◌, List, [], ◌∷◌, ◌++◌, length, refl, sym, ap, ◌∙◌, inl, inr, lit<, arith}
+use Rattle.std.proofs.Common.{◌≡◌, ℕ, ◌+◌, ◌-◌, ◌<◌, List, [], ◌∷◌, ◌++◌, length, refl, inl, inr, lit<, arith}
 use Rattle.std.proofs.lemmas.Bool.{cases_eq, eq-eqb, ne_eqb}
-use Rattle.lane_checksum.specs.PlainSum.{word_total, reduced, csum, finish_of}
-use Rattle.udp_frames.specs.Frame.{ethernet_address, internet_header, udp_header, pseudo_header, internet_checksum, udp_checksum, frame, IsMachine}
+use Rattle.lane_checksum.specs.PlainSum.{word_total, csum, finish_of}
+use Rattle.udp_frames.specs.Frame.{ethernet_address, internet_header, udp_header, pseudo_header, internet_checksum, udp_checksum, IsMachine}
 use Rattle.udp_frames.proofs.Accepting.{IsFrameFor}
 use Rattle.udp_frames.proofs.OnesComplement.{complement-full, finish_of-full}
 

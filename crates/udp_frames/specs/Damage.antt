@@ -1,7 +1,7 @@
 -- The damage of one bit of a frame, and that it never forges a datagram.
-use Rattle.std.specs.Prelude.{◌≡◌, ℕ, ◌+◌, ◌-◌, ◌*◌, ◌/◌, ◌%◌, ◌^◌, ◌<◌, ◌≤◌, List, length, slice_index, slice_set, bit_xor, All, Ok, IfOk}
+use Rattle.std.specs.Prelude.{◌≡◌, ℕ, ◌/◌, ◌%◌, ◌^◌, ◌<◌, ◌≤◌, List, length, slice_index, slice_set, bit_xor, All, Ok, IfOk}
 use Rattle.udp_frames.specs.Frame.{frame, IsMachine}
-use Rattle.udp_frames.specs.Reading.{Datagram, reads}
+use Rattle.udp_frames.specs.Reading.{reads}
 
 -- data that a frame of at most 1514 bytes carries
 abbrev pub IsPayload : List ℕ → Type 0

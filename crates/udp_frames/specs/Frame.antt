@@ -1,7 +1,7 @@
 -- The frame that carries one UDP datagram from one machine to another, as this network writes it: an Ethernet
 -- header (RFC 894), an IP header without options (RFC 791), a UDP header (RFC 768) and the data. A machine is
 -- its number, from 1 to 254, and a byte is a number below 256.
-use Rattle.std.specs.Prelude.{◌≡◌, ℕ, ◌+◌, ◌-◌, ◌<◌, ◌≤◌, ◌/◌, ◌%◌, List, [], ◌∷◌, ◌++◌, length}
+use Rattle.std.specs.Prelude.{ℕ, ◌+◌, ◌-◌, ◌≤◌, ◌/◌, ◌%◌, List, [], ◌∷◌, ◌++◌, length}
 use Rattle.lane_checksum.specs.PlainSum.{csum, finish_of}
 
 -- a number of 16 bits, high byte first

@@ -1,6 +1,6 @@
 -- What bytes say as a frame, to one machine: who sent which data, or the first fault. Each field stands where
 -- RFC 894, RFC 791 and RFC 768 put it behind an Ethernet header of 14 bytes and an IP header of 20.
-use Rattle.std.specs.Prelude.{◌≡◌, ℕ, ◌+◌, ◌-◌, ◌*◌, ◌/◌, ◌%◌, List, [], ◌∷◌, ◌++◌, length, take, drop, slice_index, Bool, true, false, not, ◌&&◌, ◌||◌, ◌==◌, nat_le, if◌then◌else◌, Option, Some, None, Result, Ok, Err}
+use Rattle.std.specs.Prelude.{◌≡◌, ℕ, ◌+◌, ◌-◌, ◌*◌, ◌/◌, ◌%◌, List, [], ◌∷◌, ◌++◌, length, take, drop, slice_index, Bool, not, ◌&&◌, ◌||◌, ◌==◌, nat_le, if◌then◌else◌, Option, Some, None, Result, Ok, Err}
 use Rattle.std.specs.Str.{bytes_eq}
 use Rattle.lane_checksum.specs.PlainSum.{csum}
 use Rattle.udp_frames.specs.Frame.{ethernet_address, internet_address, port}

@@ -1,6 +1,5 @@
-use Rattle.std.proofs.Common.{◌≡◌, ◌+◌, ◌-◌, ◌++◌, ◌%◌, ◌∷◌, [], length, get_or, take, drop, refl, sym, ap, arith, length-append}
+use Rattle.std.proofs.Common.{◌≡◌, ◌++◌, ◌∷◌, [], length, get_or, drop, refl, sym, arith, length-append}
 use Rattle.std.proofs.lemmas.List.{take_rest}
-use Rattle.lane_checksum.specs.PlainSum.{csum}
 use Rattle.udp_frames.specs.Reading.{part}
 use Rattle.udp_frames.proofs.Parts.{pseudo_header-parts, length-addresses}
 use Rattle.udp_frames.proofs.read.udp_sum.Goals as goal

@@ -1,4 +1,4 @@
-use Rattle.std.proofs.Common.{◌≡◌, ◌∙◌, ◌+◌, ◌++◌, drop, sym, ap, arith}
+use Rattle.std.proofs.Common.{◌≡◌, ◌∙◌, ◌+◌, ◌++◌, drop, ap}
 use Rattle.std.proofs.lemmas.List.{drop-drop}
 use Rattle.udp_frames.specs.Frame.{udp_header}
 use Rattle.udp_frames.proofs.Assembled.{assembled, assembled_is_read}
