@@ -132,10 +132,10 @@ fn pseudo_header(from: Station, to: Station, udp_length: u16) -> [u8; PSEUDO_LEN
 }
 
 /// The checksum of the UDP datagram that carries this data.
-fn udp_checksum(from: Station, to: Station, udp_length: u16, data: &[u8]) -> u16
-    ensures { result ≡ Frame.udp_checksum from.machine to.machine udp_length data.now }
+fn udp_checksum(from: Station, to: Station, udp_length: u16, payload: &[u8]) -> u16
+    ensures { result ≡ Frame.udp_checksum from.machine to.machine udp_length payload.now }
 {
     let pseudo = sum(&pseudo_header(from, to, udp_length));
     let header = sum(&udp_header(udp_length, 0));
-    finish(add(add(pseudo, header), sum(data)))
+    finish(add(add(pseudo, header), sum(payload)))
 }

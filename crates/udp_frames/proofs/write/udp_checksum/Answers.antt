@@ -10,5 +10,5 @@ returns c =
     let pseudo_sum : csum pseudo ≡ c.sum-pseudo.result = ap csum (sym c.pseudo_header.ensures) ∙ sym c.sum-pseudo.ensures in
     let header_sum : csum header ≡ c.sum-header.result = ap csum (sym c.udp_header.ensures) ∙ sym c.sum-header.ensures in
     let front = c.add.ensures.joins pseudo header refl pseudo_sum header_sum in
-    let whole = c.add-2.ensures.joins (pseudo ++ header) c.args.data.now refl (sym front) (sym c.sum.ensures) in
+    let whole = c.add-2.ensures.joins (pseudo ++ header) c.args.payload.now refl (sym front) (sym c.sum.ensures) in
     c.finish.ensures.value ∙ ap finish_of whole
