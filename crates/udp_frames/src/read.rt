@@ -1,6 +1,5 @@
 //! Frames read in place.
-ghost use Rattle.std.specs.Prelude.{◌≡◌, ◌≢◌, ◌+◌, ◌≤◌, ◌==◌, ◌++◌, ◌↔◌, length, slice_index, Ok, Err, Some, None, IsTrue, is_some, IsOk, IfSome, IfOk, IfErr, MatchResult};
-ghost use Rattle.std.specs.Str.{bytes_eq};
+ghost use Rattle.std.specs.Prelude.{◌≡◌, ◌+◌, ◌≤◌, ◌++◌, ◌↔◌, length, Ok, Err, IsTrue, is_some, IsOk, IfSome, IfOk, IfErr};
 ghost use Rattle.lane_checksum.specs.PlainSum.{csum};
 ghost use Rattle.udp_frames.specs.Reading;
 
