@@ -1,0 +1,4 @@
+pub mod Reduced
+pub mod Sums
+pub mod Chunks
+pub mod LaneSums

@@ -1,0 +1,7 @@
+use super::*;
+
+#[test]
+fn the_worked_example_of_rfc_1071(rt: HostRuntime) {
+    let bytes = [0x00, 0x01, 0xf2, 0x03, 0xf4, 0xf5, 0xf6, 0xf7];
+    assert_eq!(rt; sum(&bytes), 0xddf2);
+}
