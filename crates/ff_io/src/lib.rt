@@ -1,0 +1,29 @@
+//! The outside of the program, as traits with a written meaning: where bytes come from and go to, and the
+//! forms of each in memory.
+#![tactic(auto)]
+
+mod calls;
+mod memory_sink;
+mod memory_source;
+mod read_failed;
+mod reading;
+mod short;
+mod sink;
+mod source;
+mod station;
+mod write_failed;
+mod writing;
+
+pub use memory_sink::MemorySink;
+pub use memory_source::MemorySource;
+pub use read_failed::ReadFailed;
+pub use reading::{ReadAll, read_all};
+pub use short::Short;
+pub use sink::Sink;
+pub use source::Source;
+pub use station::{FIRST_MACHINE, LAST_MACHINE, Station};
+pub use write_failed::WriteFailed;
+pub use writing::write_all;
+
+#[cfg(test)]
+mod tests;

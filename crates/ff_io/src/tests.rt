@@ -1,0 +1,126 @@
+// Each call once, at a concrete type, with real memory.
+use super::*;
+use std::alloc::{AllocError, Global};
+use std::test::Fail;
+
+fn source_of(alloc: Global, bytes: &[u8], fail: &[u64]) -> Result<MemorySource, AllocError> {
+    let bytes = Vec::from_slice(alloc, bytes)?;
+    let fail = Vec::from_slice(alloc, fail)?;
+    Ok(MemorySource::new(bytes, fail))
+}
+
+fn sink_of(alloc: Global, fail: &[u64]) -> Result<MemorySink, AllocError> {
+    let fail = Vec::from_slice(alloc, fail)?;
+    Ok(MemorySink::new(fail, Vec::new(alloc)))
+}
+
+#[test]
+fn the_listed_calls_fail(rt: HostRuntime) -> Result<(), Fail> {
+    let mut source = source_of(rt.alloc(), b"abcde", &[1, 3])?;
+    let mut into = [0u8; 2];
+    assert_eq!(rt; source.read(&mut into), Err(ReadFailed));
+    assert_eq!(rt; source.read(&mut into), Ok(2));
+    assert_eq!(rt; into.as_slice(), b"ab".as_slice());
+    assert_eq!(rt; source.read(&mut into), Err(ReadFailed));
+    assert_eq!(rt; source.left(), b"cde".as_slice());
+    assert_eq!(rt; source.faults(), 2);
+
+    let mut sink = sink_of(rt.alloc(), &[2])?;
+    assert_eq!(rt; sink.write(b"ab"), Ok(2));
+    assert_eq!(rt; sink.write(b"cd"), Err(WriteFailed));
+    assert_eq!(rt; sink.write(b"ef"), Ok(2));
+    assert_eq!(rt; sink.written(), b"abef".as_slice());
+    assert_eq!(rt; sink.faults(), 1);
+    Ok(())
+}
+
+#[test]
+fn a_source_is_read_to_its_end(rt: HostRuntime) -> Result<(), Fail> {
+    for (limit, want) in [(4, Err(ReadAll::TooLong)), (5, Ok(5)), (usize::MAX, Ok(5))] {
+        let mut source = source_of(rt.alloc(), b"hello", &[])?;
+        let got = read_all(rt.alloc(), &mut source, limit);
+        assert_eq!(rt;
+            got.map(|bytes| bytes.len()),
+            want,
+            "with the limit {limit}"
+        );
+    }
+    let mut long = Vec::new(rt.alloc());
+    for i in 0..10_000u32 {
+        long.push((i % 251) as u8)?;
+    }
+    let mut source = source_of(rt.alloc(), &long, &[])?;
+    assert_eq!(rt;
+        read_all(rt.alloc(), &mut source, 10_000)?.as_slice(),
+        long.as_slice()
+    );
+    let mut nothing = source_of(rt.alloc(), b"", &[])?;
+    assert_eq!(rt; read_all(rt.alloc(), &mut nothing, 0)?.len(), 0);
+    Ok(())
+}
+
+#[test]
+fn short_reads_are_read_on(rt: HostRuntime) -> Result<(), Fail> {
+    let inner = source_of(rt.alloc(), b"hello", &[])?;
+    let mut source = Short { inner, most: 2 };
+    assert_eq!(rt;
+        read_all(rt.alloc(), &mut source, 5)?.as_slice(),
+        b"hello".as_slice()
+    );
+    Ok(())
+}
+
+#[test]
+fn a_read_that_fails_in_mid_stream_is_told(rt: HostRuntime) -> Result<(), Fail> {
+    let inner = source_of(rt.alloc(), b"hello", &[2])?;
+    let mut source = Short { inner, most: 2 };
+    assert_eq!(rt;
+        read_all(rt.alloc(), &mut source, 5).err(),
+        Some(ReadAll::Failed)
+    );
+    assert_eq!(rt; source.inner.faults(), 1);
+    assert_eq!(rt; source.inner.left(), b"llo".as_slice());
+    Ok(())
+}
+
+#[test]
+fn short_writes_are_written_on(rt: HostRuntime) -> Result<(), Fail> {
+    let inner = sink_of(rt.alloc(), &[])?;
+    let mut sink = Short { inner, most: 2 };
+    write_all(&mut sink, b"hello")?;
+    assert_eq!(rt; sink.inner.written(), b"hello".as_slice());
+    Ok(())
+}
+
+#[test]
+fn a_write_that_fails_in_mid_stream_leaves_a_prefix(rt: HostRuntime) -> Result<(), Fail> {
+    let inner = sink_of(rt.alloc(), &[2])?;
+    let mut sink = Short { inner, most: 2 };
+    assert_eq!(rt; write_all(&mut sink, b"hello"), Err(WriteFailed));
+    assert_eq!(rt; sink.inner.written(), b"he".as_slice());
+    assert_eq!(rt; sink.inner.faults(), 1);
+    Ok(())
+}
+
+#[test]
+fn what_the_room_holds_counts_as_written(rt: HostRuntime) -> Result<(), Fail> {
+    let room = Vec::from_slice(rt.alloc(), b"old ")?;
+    let mut sink = MemorySink::new(Vec::new(rt.alloc()), room);
+    write_all(&mut sink, b"new")?;
+    assert_eq!(rt; sink.written(), b"old new".as_slice());
+    Ok(())
+}
+
+#[test]
+fn a_station_is_a_machine(rt: HostRuntime) {
+    let station = Station {
+        machine: LAST_MACHINE,
+    };
+    assert_eq!(rt; station.machine, 254);
+    assert_ne!(rt;
+        station,
+        Station {
+            machine: FIRST_MACHINE
+        }
+    );
+}
