@@ -1,23 +1,17 @@
-//! The player.
+//! The player of scripts: its world, which steps by events and prints the lines of each.
 #![tactic(auto)]
 
-ghost use Rattle.std.specs.Prelude.{◌≡◌, ◌++◌, OnOk, codes};
-ghost use Rattle.replay_model.specs.Record as act;
-ghost use Rattle.replay_model.specs.Lines.{lines_of_act, newline, blank, call_text, activity_text};
-ghost use Rattle.call_rules.specs.Packet.{call_of};
+mod client;
+mod entry;
+mod printed;
+mod run_line;
+mod sent;
+mod server;
+mod service;
+mod worker;
+mod world;
 
-use rpc_header::{Activity, CallId};
-use std::alloc::{AllocError, Global};
+pub use world::World;
 
-fn put(out: &mut Vec<u8>, text: &str) -> Result<(), AllocError>
-    ensures { OnOk result (out.new.items ≡ out.old.items ++ text.now) }
-{
-    out.extend_from_slice(text.as_bytes())
-}
-
-fn put_start(alloc: Global, out: &mut Vec<u8>, call: &CallId) -> Result<(), AllocError>
-    ensures { OnOk result (out.new.items ≡ out.old.items ++ (codes "start " ++ call_text (call_of call.now) ++ newline)) }
-{
-    let line = format!(in alloc; "start {}.{} {}\n", call.activity.machine, call.activity.process, call.number.value)?;
-    put(out, line.as_str())
-}
+#[cfg(test)]
+mod tests;
