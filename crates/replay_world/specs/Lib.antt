@@ -3,5 +3,7 @@ pub mod Digests
 pub mod Discard
 pub mod Entry
 pub mod Printed
+pub mod Server
 pub mod Service
+pub mod Unfit
 pub mod Worker

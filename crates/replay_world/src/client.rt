@@ -1,10 +1,11 @@
 //! A client machine with its processes.
 
-ghost use Rattle.std.specs.Prelude.{◌≡◌, ◌≤◌, ◌<◌, ◌^◌, IfOk, OnOk};
+ghost use Rattle.std.specs.Prelude.{◌≡◌, ℕ, ◌+◌, ◌≤◌, ◌<◌, ◌^◌, Some, IfOk, OnOk, MatchOption};
 ghost use Rattle.call_rules.specs.Caller as rules;
 ghost use Rattle.replay_model.specs.World as model;
+ghost use Rattle.replay_model.specs.World.{World, Client, numbered, number_limit};
 ghost use Rattle.replay_model.specs.Step as step;
-ghost use Rattle.replay_model.specs.Service.{arguments_of};
+ghost use Rattle.replay_model.specs.Service as service;
 
 use caller_core::{Action, Caller};
 use replay_model::CallWord;
@@ -78,7 +79,7 @@ pub enum Took {
 }
 
 impl ClientLine {
-    ghost use Rattle.replay_world.specs.Client.{started_line, took_line, IsMissed};
+    ghost use Rattle.replay_world.specs.Client.{started_line, took_outcome, KeepsMissed};
 
     fn boot(alloc: Global, boot: u32, machine: u8, process: u8) -> Self
         requires { 1 ≤ process }
@@ -106,6 +107,8 @@ impl ClientLine {
 
     /// The number of the next call, where the second has one left.
     fn next_number(&self, second: u32) -> Option<CallNumber>
+        ensures { MatchOption result (number_limit second ≤ self.now.next)
+            (λ number. (number.value ≡ self.now.next) × (self.now.next < number_limit second)) }
     {
         if self.next < (u64::from(second) + 1) * NUMBERS_A_SECOND {
             number(self.next)
@@ -126,7 +129,7 @@ impl ClientLine {
         requires next { number.value ≡ self.old.next }
         ensures line { OnOk result (self.new ≡ started_line self.old word) }
         ensures packet { IfOk result (λ packet. packet
-            ≡ step.call_packet machine (step.started_caller self.old word) (arguments_of word)) }
+            ≡ step.call_packet machine (step.started_caller self.old word) (service.arguments_of word)) }
     {
         let arguments = arguments_of(alloc, word)?;
         let payload = Vec::from_slice(alloc, arguments.as_slice())?;
@@ -142,9 +145,16 @@ impl ClientLine {
     }
 
     /// Takes a packet.
-    fn take(&mut self, packet: &Sent) -> Took {
+    fn take(&mut self, packet: &Sent) -> Took
+        ensures outcome { (w : World) (k : ℕ) (c : Client) → step.line_takes w k packet.now c (Some self.old)
+            ≡ took_outcome w k packet.now (step.with_line c (packet.now.header.hint + 1) self.new) result }
+        ensures missed { KeepsMissed result self.old self.new }
+    {
         let header = packet.header();
-        if self.caller.is_idle() || self.number.value != header.call.number.value {
+        if self.caller.is_idle() {
+            return Took::Stale;
+        }
+        if self.number.value != header.call.number.value {
             return Took::Stale;
         }
         match self.caller.on_packet(header) {
@@ -171,6 +181,8 @@ impl Model for ClientMachine {
 }
 
 impl ClientMachine {
+    ghost use Rattle.replay_world.specs.Client.{CallsAs, KeepsImpossible, took_outcome, KeepsMissed};
+
     pub fn boot(alloc: Global, boot: u32, machine: u8) -> Result<Self, AllocError>
         ensures { IfOk result (λ c. c ≡ model.booted_client boot machine) }
     {
@@ -194,6 +206,9 @@ impl ClientMachine {
         second: u32,
     ) -> Result<Called, AllocError>
         requires { 1 ≤ process }
+        ensures outcome { IfOk result (λ called. (w : World) → CallsAs (record w { second = second }) machine self.new called
+            (step.call_by (record w { second = second }) machine process self.old (numbered 1 self.old.lines process) word)) }
+        ensures impossible { IfOk result (λ called. KeepsImpossible called self.old self.new) }
     {
         let place = usize::from(process) - 1;
         if place >= self.lines.len() {
@@ -213,7 +228,10 @@ impl ClientMachine {
     }
 
     /// Takes a packet for the process that the packet's hint names.
-    pub fn take(&mut self, packet: &Sent) -> Took {
+    pub fn take(&mut self, packet: &Sent) -> Took
+        ensures outcome { (w : World) (k : ℕ) → step.client_takes w k packet.now (Some self.old) ≡ took_outcome w k packet.now self.new result }
+        ensures missed { KeepsMissed result self.old self.new }
+    {
         let place = usize::from(packet.header().hint);
         if place >= self.lines.len() {
             return Took::NoCell;

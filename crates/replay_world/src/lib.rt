@@ -9,9 +9,3 @@ mod sent;
 mod server;
 mod service;
 mod worker;
-mod world;
-
-pub use world::World;
-
-#[cfg(test)]
-mod tests;

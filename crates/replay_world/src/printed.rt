@@ -1,11 +1,13 @@
 //! The lines of a transcript.
 
-ghost use Rattle.std.specs.Prelude.{◌≡◌, ℕ, List, ◌++◌, ◌<◌, ◌^◌, length, OnOk, codes};
+ghost use Rattle.std.specs.Prelude.{◌≡◌, ℕ, List, ◌++◌, ◌/◌, ◌%◌, ◌<◌, ◌^◌, length, OnOk, codes, if◌then◌else◌};
 ghost use Rattle.call_rules.specs.Packet.{call_of};
 ghost use Rattle.replay_model.specs.Record as act;
-ghost use Rattle.replay_model.specs.Lines.{blank, newline, call_text, end_line, lines_of_act};
-ghost use Rattle.replay_world.specs.Printed.{reply_line, run_digest_line, run_digest_lines, runs_text, digest_text};
+ghost use Rattle.std.specs.Fmt.{decimal};
+ghost use Rattle.replay_model.specs.Lines.{blank, newline, call_text, kind_text, unfit_text, procedure_text, hex, hex_byte, end_line, lines_of_act};
+ghost use Rattle.replay_world.specs.Printed.{return_digest_line, run_digest_line, journal_digest_lines, digest_text, digest_exception, digest_reply_text};
 ghost use Rattle.replay_world.specs.Worker.{did_of};
+ghost use Rattle.replay_world.specs.Unfit.{unfit_of};
 ghost use Rattle.replay_world.specs.Discard.{discard_of};
 
 use lane_checksum::{Digest, HEAD};
@@ -68,13 +70,63 @@ pub fn put_packet(
     ensures { OnOk result (out.new.items ≡ out.old.items ++ lines_of_act (act.Sends number packet.now)) }
 {
     let header = packet.header();
-    let kind = kind_text(header.kind);
-    let please_ack = if header.please_ack { "a" } else { "-" };
-    let last = if header.last { "l" } else { "-" };
-    let way = format!(in alloc; "packet {number} {}>{} {kind} ", packet.from(), packet.to())?;
-    let piece = format!(in alloc; "{}/{} {please_ack}{last} {}\n", header.call.number.value, header.fragment, packet.payload().len())?;
-    put(out, way.as_str())?;
-    put(out, piece.as_str())
+    put_way(alloc, out, number, packet.from(), packet.to())?;
+    put_piece(
+        alloc,
+        out,
+        header.kind,
+        header.call.number.value,
+        header.fragment,
+    )?;
+    put_flags(
+        alloc,
+        out,
+        header.please_ack,
+        header.last,
+        packet.payload().len(),
+    )
+}
+
+fn put_way(
+    alloc: Global,
+    out: &mut Vec<u8>,
+    number: usize,
+    from: u8,
+    to: u8,
+) -> Result<(), AllocError>
+    ensures { OnOk result (out.new.items ≡ out.old.items ++ (codes "packet " ++ decimal number ++ blank ++ decimal from ++ codes ">" ++ decimal to)) }
+{
+    let line = format!(in alloc; "packet {number} {from}>{to}")?;
+    put(out, line.as_str())
+}
+
+fn put_piece(
+    alloc: Global,
+    out: &mut Vec<u8>,
+    kind: Kind,
+    number: u64,
+    fragment: u16,
+) -> Result<(), AllocError>
+    ensures { OnOk result (out.new.items ≡ out.old.items ++ (blank ++ kind_text kind ++ blank ++ decimal number ++ codes "/" ++ decimal fragment)) }
+{
+    let kind = kind_text(kind);
+    let line = format!(in alloc; " {kind} {number}/{fragment}")?;
+    put(out, line.as_str())
+}
+
+fn put_flags(
+    alloc: Global,
+    out: &mut Vec<u8>,
+    please_ack: bool,
+    last: bool,
+    len: usize,
+) -> Result<(), AllocError>
+    ensures { OnOk result (out.new.items ≡ out.old.items ++ (blank ++ ((if please_ack then codes "a" else codes "-") ++ (if last then codes "l" else codes "-")) ++ blank ++ decimal len ++ newline)) }
+{
+    let please_ack = flag_text(please_ack, "a");
+    let last = flag_text(last, "l");
+    let line = format!(in alloc; " {please_ack}{last} {len}\n")?;
+    put(out, line.as_str())
 }
 
 fn kind_text(kind: Kind) -> &'static str
@@ -90,6 +142,13 @@ fn kind_text(kind: Kind) -> &'static str
         Kind::Bind => "bind",
         Kind::Bound => "bound",
     }
+}
+
+/// The letter of a flag, or a dash where it isn't set.
+fn flag_text(is_set: bool, letter: &str) -> &str
+    ensures { result.now ≡ (if is_set then letter.now else codes "-") }
+{
+    if is_set { letter } else { "-" }
 }
 
 /// A packet that comes to the server's ready ones.
@@ -165,22 +224,34 @@ pub fn put_return(
 ) -> Result<(), AllocError>
     ensures { OnOk result (out.new.items ≡ out.old.items ++ return_digest_line (call_of call) signal reply.now) }
 {
-    let word = if signal { "signalled" } else { "returned" };
-    let line = format!(in alloc; "{word} {}.{} {} ", call.activity.machine, call.activity.process, call.number.value)?;
-    put(out, line.as_str())?;
     if signal {
+        put_call(alloc, out, "signalled", call)?;
         put_exception(alloc, out, reply)?;
-    } else {
-        put_digest(alloc, out, reply)?;
+        return put(out, "\n");
     }
+    put_call(alloc, out, "returned", call)?;
+    put_digest(alloc, out, reply)?;
     put(out, "\n")
+}
+
+fn put_call(
+    alloc: Global,
+    out: &mut Vec<u8>,
+    word: &str,
+    call: CallId,
+) -> Result<(), AllocError>
+    ensures { OnOk result (out.new.items ≡ out.old.items ++ (word.now ++ blank ++ call_text (call_of call) ++ blank)) }
+{
+    put(out, word)?;
+    let line = format!(in alloc; " {}.{} {} ", call.activity.machine, call.activity.process, call.number.value)?;
+    put(out, line.as_str())
 }
 
 /// The number of an exception.
 fn put_exception(alloc: Global, out: &mut Vec<u8>, reply: &Digest) -> Result<(), AllocError>
     ensures { OnOk result (out.new.items ≡ out.old.items ++ decimal (digest_exception reply.now)) }
 {
-    let number = u16::from_be_bytes([reply.head[0], reply.head[1]]);
+    let number = 256 * u16::from(reply.head[0]) + u16::from(reply.head[1]);
     let text = number.to_string(alloc)?;
     put(out, text.as_str())
 }
@@ -189,21 +260,37 @@ fn put_exception(alloc: Global, out: &mut Vec<u8>, reply: &Digest) -> Result<(),
 fn put_digest(alloc: Global, out: &mut Vec<u8>, digest: &Digest) -> Result<(), AllocError>
     ensures { OnOk result (out.new.items ≡ out.old.items ++ digest_text digest.now) }
 {
-    let len = digest.len;
-    let text = format!(in alloc; "{len}:")?;
-    put(out, text.as_str())?;
-    let len = len as usize;
+    put_len(alloc, out, digest.len)?;
+    let len = digest.len as usize;
     if len <= HEAD {
-        for byte in &digest.head[..len] {
-            put_hex(alloc, out, *byte)?;
-        }
-        Ok(())
+        put_bytes(alloc, out, &digest.head[..len])
     } else {
-        put(out, "#")?;
-        let [high, low] = digest.sum.to_be_bytes();
-        put_hex(alloc, out, high)?;
-        put_hex(alloc, out, low)
+        put_sum(alloc, out, digest.sum)
     }
+}
+
+fn put_len(alloc: Global, out: &mut Vec<u8>, len: u32) -> Result<(), AllocError>
+    ensures { OnOk result (out.new.items ≡ out.old.items ++ (decimal len ++ codes ":")) }
+{
+    let text = format!(in alloc; "{len}:")?;
+    put(out, text.as_str())
+}
+
+fn put_sum(alloc: Global, out: &mut Vec<u8>, sum: u16) -> Result<(), AllocError>
+    ensures { OnOk result (out.new.items ≡ out.old.items ++ (codes "#" ++ hex_byte (sum / 256) ++ hex_byte (sum % 256))) }
+{
+    put(out, "#")?;
+    put_hex(alloc, out, (sum >> 8) as u8)?;
+    put_hex(alloc, out, (sum & 0xff) as u8)
+}
+
+fn put_bytes(alloc: Global, out: &mut Vec<u8>, bytes: &[u8]) -> Result<(), AllocError>
+    ensures { OnOk result (out.new.items ≡ out.old.items ++ hex bytes.now) }
+{
+    for byte in bytes {
+        put_hex(alloc, out, *byte)?;
+    }
+    Ok(())
 }
 
 fn put_hex(alloc: Global, out: &mut Vec<u8>, byte: u8) -> Result<(), AllocError>
@@ -234,20 +321,37 @@ fn put_run(
 ) -> Result<(), AllocError>
     ensures { OnOk result (out.new.items ≡ out.old.items ++ run_digest_line number run.now) }
 {
-    let call = run.call;
-    let line = format!(in alloc; "run {number} {}.{} {} ", call.activity.machine, call.activity.process, call.number.value)?;
-    put(out, line.as_str())?;
+    put_number(alloc, out, number)?;
+    put_call(alloc, out, "", run.call)?;
     put_procedure(alloc, out, run.procedure)?;
     put(out, " ")?;
     put_digest(alloc, out, &run.arguments)?;
     put(out, " -> ")?;
-    if run.signal {
-        put(out, "!")?;
-        put_exception(alloc, out, &run.reply)?;
-    } else {
-        put_digest(alloc, out, &run.reply)?;
-    }
+    put_reply(alloc, out, run.signal, &run.reply)?;
     put(out, "\n")
+}
+
+fn put_number(alloc: Global, out: &mut Vec<u8>, number: usize) -> Result<(), AllocError>
+    ensures { OnOk result (out.new.items ≡ out.old.items ++ (codes "run " ++ decimal number)) }
+{
+    let line = format!(in alloc; "run {number}")?;
+    put(out, line.as_str())
+}
+
+fn put_reply(
+    alloc: Global,
+    out: &mut Vec<u8>,
+    signal: bool,
+    reply: &Digest,
+) -> Result<(), AllocError>
+    ensures { OnOk result (out.new.items ≡ out.old.items ++ digest_reply_text signal reply.now) }
+{
+    if signal {
+        put(out, "!")?;
+        put_exception(alloc, out, reply)
+    } else {
+        put_digest(alloc, out, reply)
+    }
 }
 
 fn put_procedure(alloc: Global, out: &mut Vec<u8>, procedure: u16) -> Result<(), AllocError>
@@ -264,8 +368,31 @@ fn put_procedure(alloc: Global, out: &mut Vec<u8>, procedure: u16) -> Result<(),
 pub fn put_end(alloc: Global, out: &mut Vec<u8>, tally: &Tally) -> Result<(), AllocError>
     ensures { OnOk result (out.new.items ≡ out.old.items ++ end_line tally.now) }
 {
-    let runs = format!(in alloc; "end runs {} returned {} signalled {} ", tally.runs, tally.returned, tally.signalled)?;
-    let lost = format!(in alloc; "failed {} refused {}\n", tally.failed, tally.refused)?;
-    put(out, runs.as_str())?;
-    put(out, lost.as_str())
+    put_ran(alloc, out, tally.runs, tally.returned, tally.signalled)?;
+    put_lost(alloc, out, tally.failed, tally.refused)
+}
+
+fn put_ran(
+    alloc: Global,
+    out: &mut Vec<u8>,
+    runs: u64,
+    returned: u64,
+    signalled: u64,
+) -> Result<(), AllocError>
+    ensures { OnOk result (out.new.items ≡ out.old.items ++ (codes "end runs " ++ decimal runs ++ codes " returned " ++ decimal returned ++ codes " signalled " ++ decimal signalled)) }
+{
+    let line = format!(in alloc; "end runs {runs} returned {returned} signalled {signalled}")?;
+    put(out, line.as_str())
+}
+
+fn put_lost(
+    alloc: Global,
+    out: &mut Vec<u8>,
+    failed: u64,
+    refused: u64,
+) -> Result<(), AllocError>
+    ensures { OnOk result (out.new.items ≡ out.old.items ++ (codes " failed " ++ decimal failed ++ codes " refused " ++ decimal refused ++ newline)) }
+{
+    let line = format!(in alloc; " failed {failed} refused {refused}\n")?;
+    put(out, line.as_str())
 }

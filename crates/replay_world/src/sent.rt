@@ -1,7 +1,7 @@
 //! A packet that was sent.
 
-ghost use Rattle.std.specs.Prelude.{◌≡◌, ◌≤◌, length, IfOk};
-ghost use Rattle.call_rules.specs.Packet.{fields_of};
+ghost use Rattle.std.specs.Prelude.{◌≡◌, ◌≤◌, length, take, IfOk, if◌then◌else◌};
+ghost use Rattle.call_rules.specs.Packet.{fields_of, piece_size};
 ghost use Rattle.call_rules.specs.Worker as rules;
 ghost use Rattle.replay_world.specs.Service.{answer_of};
 
@@ -92,13 +92,9 @@ impl Sent {
     {
         let reply = answer.reply.as_slice();
         let is_whole = reply.len() <= PIECE_BYTES;
-        let piece = &reply[..reply.len().min(PIECE_BYTES)];
+        let payload = Vec::from_slice(alloc, front(reply, PIECE_BYTES))?;
         let header = Header {
-            kind: if answer.signal {
-                Kind::Signal
-            } else {
-                Kind::Result
-            },
+            kind: reply_kind(answer.signal),
             please_ack: !is_whole,
             last: is_whole,
             reason: 0,
@@ -108,7 +104,6 @@ impl Sent {
             export: self.header.export,
             procedure: self.header.procedure,
         };
-        let payload = Vec::from_slice(alloc, piece)?;
         Ok(Sent {
             from: self.to,
             to: self.from,
@@ -116,4 +111,18 @@ impl Sent {
             payload,
         })
     }
+}
+
+fn reply_kind(signal: bool) -> Kind
+    ensures { result ≡ (if signal then Kind.Signal else Kind.Result) }
+{
+    if signal { Kind::Signal } else { Kind::Result }
+}
+
+/// At most so many bytes of the front of a text.
+fn front(text: &[u8], most: usize) -> &[u8]
+    ensures front { result.now ≡ take most text.now }
+    ensures short { length result.now ≤ most }
+{
+    if text.len() > most { &text[..most] } else { text }
 }

@@ -1,11 +1,15 @@
 //! The workers of the server.
 
-ghost use Rattle.std.specs.Prelude.{◌≡◌};
+ghost use Rattle.std.specs.Prelude.{◌≡◌, MatchOption};
+ghost use Rattle.call_rules.specs.Packet.{Packet};
+ghost use Rattle.call_rules.specs.Entry as entry;
 ghost use Rattle.call_rules.specs.Worker as rules;
+ghost use Rattle.replay_world.specs.Entry.{judged_of};
+ghost use Rattle.replay_world.specs.Unfit.{unfit_of};
 
 use std::marker::Model;
 
-use crate::entry::Word;
+use crate::entry::{Judged, Word};
 use crate::sent::Sent;
 use crate::service::Answer;
 
@@ -80,5 +84,22 @@ impl Worker {
         ensures idle { self.new ≡ rules.Resting }
     {
         std::mem::replace(&mut self.state, WorkerState::Idle)
+    }
+}
+
+/// Why a packet that is judged so is dropped, or `None` where it is admitted.
+pub fn unfit_for(judged: Judged) -> Option<Unfit>
+    ensures { MatchOption result (judged_of judged ≡ entry.Admit)
+        (λ why. (p : Packet) (e : entry.Entry) → rules.on_judged (judged_of judged) p e ≡ rules.drops e (unfit_of why)) }
+{
+    match judged {
+        Judged::Admit => None,
+        Judged::Older => Some(Unfit::Older),
+        Judged::Busy => Some(Unfit::Busy),
+        Judged::Unknown => Some(Unfit::Unknown),
+        Judged::Skipped => Some(Unfit::Skipped),
+        Judged::Same => Some(Unfit::Same),
+        // What acknowledges, gathers and sends again comes later.
+        Judged::Ack | Judged::Begin | Judged::Fetch => Some(Unfit::Same),
     }
 }
