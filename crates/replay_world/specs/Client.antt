@@ -55,3 +55,14 @@ took_outcome w k p c (took.Returned signal) =
 abbrev pub KeepsMissed : {A : Type 0} → Took → A → A → Type 0
 KeepsMissed (took.Returned signal) old new = Unit {0}
 KeepsMissed _ old new = new ≡ old
+
+-- the same, in the world after it
+abbrev pub took_in : World → (number : ℕ) → Packet → Took → Outcome
+took_in w k p took.NoCell = discarded w NoCell
+took_in w k p took.Stale = discarded w Stale
+took_in w k p took.Unused = discarded w Unused
+took_in w k p (took.Returned signal) =
+    record {
+      world = w;
+      acts = Hears p.header.call.activity k ∷ Returns (record { call = p.header.call; signal = signal; reply = p.payload }) ∷ [];
+    }

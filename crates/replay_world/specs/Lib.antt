@@ -2,8 +2,11 @@ pub mod Client
 pub mod Digests
 pub mod Discard
 pub mod Entry
+pub mod Played
 pub mod Printed
 pub mod Server
 pub mod Service
+pub mod Stands
+pub mod Stored
 pub mod Unfit
 pub mod Worker

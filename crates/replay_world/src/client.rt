@@ -186,13 +186,10 @@ impl ClientMachine {
     pub fn boot(alloc: Global, boot: u32, machine: u8) -> Result<Self, AllocError>
         ensures { IfOk result (λ c. c ≡ model.booted_client boot machine) }
     {
-        let lines = (1..PROCESSES + 1)
-            .map(|process| ClientLine::boot(alloc, boot, machine, process))
-            .collect(alloc)?;
         Ok(ClientMachine {
             boot,
             read: boot,
-            lines,
+            lines: boot_lines(alloc, boot, machine)?,
         })
     }
 
@@ -238,4 +235,15 @@ impl ClientMachine {
         }
         self.lines[place].take(packet)
     }
+}
+
+/// The processes of a client that has booted.
+fn boot_lines(alloc: Global, boot: u32, machine: u8) -> Result<Vec<ClientLine>, AllocError>
+    ensures { IfOk result (λ lines. lines.items ≡ (model.booted_client boot machine).lines) }
+{
+    let mut lines = Vec::new(alloc);
+    for cell in 0..PROCESSES {
+        lines.push(ClientLine::boot(alloc, boot, machine, cell + 1))?;
+    }
+    Ok(lines)
 }

@@ -9,3 +9,9 @@ mod sent;
 mod server;
 mod service;
 mod worker;
+mod world;
+
+pub use world::World;
+
+#[cfg(test)]
+mod tests;

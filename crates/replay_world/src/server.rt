@@ -1,6 +1,6 @@
 //! The server machine.
 
-ghost use Rattle.std.specs.Prelude.{◌≡◌, ◌≤◌, ◌+◌, ◌<◌, ◌^◌, [], ◌∷◌, ◌++◌, length, Some, None, unwrap_or, nat_lt, IfOk, OnOk, MatchOption, if◌then◌else◌};
+ghost use Rattle.std.specs.Prelude.{◌≡◌, ◌≤◌, ◌+◌, ◌<◌, ◌^◌, [], ◌∷◌, ◌++◌, length, Some, None, unwrap_or, replicate, nat_lt, IfOk, OnOk, MatchOption, if◌then◌else◌};
 ghost use Rattle.call_rules.specs.Entry as entry;
 ghost use Rattle.call_rules.specs.Worker as rules;
 ghost use Rattle.replay_model.specs.World as model;
@@ -107,28 +107,15 @@ impl ServerMachine {
         requires { boot < 2 ^ 31 }
         ensures { IfOk result (λ s. s ≡ model.booted_server small long boot) }
     {
-        let mut rows = Vec::new(alloc);
-        rows.push(Some(ExportRow::main(alloc, boot)?))?;
-        for _ in 1..EXPORT_ROWS {
-            rows.push(None)?;
-        }
-        let mut entries = Vec::new(alloc);
-        for _ in 0..ENTRIES {
-            entries.push(Entry::empty())?;
-        }
-        let mut workers = Vec::new(alloc);
-        for _ in 0..WORKERS {
-            workers.push(Worker::new(WorkerState::Idle))?;
-        }
         Ok(ServerMachine {
             small,
             long,
             boot,
             read: boot,
-            rows,
+            rows: boot_rows(alloc, boot)?,
             next: boot + 1,
-            entries,
-            workers,
+            entries: boot_entries(alloc)?,
+            workers: boot_workers(alloc)?,
             ready: VecDeque::new(alloc),
             total: 0,
         })
@@ -308,6 +295,38 @@ fn dropped(number: u64, why: Unfit) -> (WorkerState, Worked)
         did: Did::Drops(why),
     };
     (WorkerState::Idle, worked)
+}
+
+/// The exports of a server that has booted.
+fn boot_rows(alloc: Global, boot: u32) -> Result<Vec<Option<ExportRow>>, AllocError>
+    ensures { IfOk result (λ rows. rows.items ≡ Some (model.main_row boot) ∷ replicate 15 None) }
+{
+    let mut rows = Vec::new(alloc);
+    rows.push(Some(ExportRow::main(alloc, boot)?))?;
+    for _row in 0..EXPORT_ROWS - 1 {
+        rows.push(None)?;
+    }
+    Ok(rows)
+}
+
+fn boot_entries(alloc: Global) -> Result<Vec<Entry>, AllocError>
+    ensures { IfOk result (λ entries. entries.items ≡ replicate 64 entry.Empty) }
+{
+    let mut entries = Vec::new(alloc);
+    for _entry in 0..ENTRIES {
+        entries.push(Entry::empty())?;
+    }
+    Ok(entries)
+}
+
+fn boot_workers(alloc: Global) -> Result<Vec<Worker>, AllocError>
+    ensures { IfOk result (λ workers. workers.items ≡ replicate 4 rules.Resting) }
+{
+    let mut workers = Vec::new(alloc);
+    for _worker in 0..WORKERS {
+        workers.push(Worker::new(WorkerState::Idle))?;
+    }
+    Ok(workers)
 }
 
 /// The place of an activity's entry, where it has one.
