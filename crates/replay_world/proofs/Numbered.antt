@@ -2,7 +2,7 @@
 use Rattle.std.proofs.Common.{◌≡◌, ℕ, ◌+◌, ◌-◌, ◌≤◌, ◌<◌, List, length, Option, Some, None, get_or, set, cond, Bool, true, false, ap, sym, ◌∙◌, arith, refl}
 use Rattle.std.specs.Prelude.{unwrap_or, slice_get}
 use Rattle.std.proofs.lemmas.List.{set-get_or, set_past}
-use Rattle.std.proofs.lemmas.Bool.{le-ltb, cond-false}
+use Rattle.std.proofs.lemmas.Bool.{le-ltb, lt-ltb, cond-true, cond-false}
 use Rattle.std.proofs.lemmas.Option.{slice_get_past, slice_get-get_or, slice_get_within, get_or_from_slice_get, unwrap_or-slice_get}
 use Rattle.rpc_header.specs.declared.Activity.{Activity}
 use Rattle.call_rules.specs.Entry.{Entry, Empty}
@@ -31,3 +31,7 @@ with_entry-kept es a = kept-at (is_entry_activity a) es (entry_place a)
 
 pub with_entry-same : (es : List Entry) (a : Activity) (o : Option Entry) → entry_at es a ≡ o → with_entry es a (unwrap_or o Empty) ≡ es
 with_entry-same es a o h = ap (λ (p : Option Entry). with_entry es a (unwrap_or p Empty)) (sym h) ∙ with_entry-kept es a
+
+-- a number below the first
+pub numbered-low : {A : Type 0} (from : ℕ) (xs : List A) (n : ℕ) → n < from → numbered from xs n ≡ None
+numbered-low {A} from xs n low = cond-true _ _ _ (lt-ltb n from low)

@@ -157,17 +157,30 @@ impl World {
         if place >= self.bag.len() {
             return put_impossible(out);
         }
-        let packet = &self.bag[place];
-        if packet.to() == SERVER_MACHINE {
-            let has_room = self.server.take(alloc, packet)?;
-            if has_room {
-                put_ready(alloc, out, number)
-            } else {
-                put_discard(out, Discard::NoRoom)
-            }
+        if self.bag[place].to() == SERVER_MACHINE {
+            self.deliver_to_server(alloc, number, out)
         } else {
             self.deliver_to_client(alloc, number, out)
         }
+    }
+
+    fn deliver_to_server(
+        &mut self,
+        alloc: Global,
+        number: u32,
+        out: &mut Vec<u8>,
+    ) -> Result<(), AllocError>
+        requires number { 1 ≤ number }
+        requires is_there { number ≤ length self.old.bag }
+        ensures played { (r : Records) (p : Packet) → Keeps self.old r → model.packet_at self.old.bag number ≡ Some p
+            → OnOk result (Plays out.old.items out.new.items self.new r (step.server_takes (world_with self.old r) number p)) }
+        ensures load { OnOk result (load self.new ≤ load self.old) }
+    {
+        let packet = &self.bag[number as usize - 1];
+        if self.server.take(alloc, packet)? {
+            return put_ready(alloc, out, number);
+        }
+        put_discard(out, Discard::NoRoom)
     }
 
     fn deliver_to_client(
