@@ -1,6 +1,7 @@
 pub mod Boot
 pub mod CallerRules
 pub mod ClientSteps
+pub mod DigestLines
 pub mod Numbered
 pub mod PlaySteps
 pub mod Put

@@ -90,10 +90,12 @@ next_works w s0 s1 i (p ∷ rest) x1 did h =
 -- the body of an admitted call runs
 body_works : (w : World) (s0 s1 : Server) (i : ℕ) (p : Packet) (x1 : rules.Worker) (did : Worked) → RunsBody p (record s0 { workers = set s0.workers (i - 1) Resting }) s1 x1 did → WorksAs (record w { server = s0 }) i (record s1 { workers = set s1.workers (i - 1) x1 }) did (runs_body (record w { server = s0 }) i p (entry_in s0 p) (served s0.total p.header.procedure p.payload))
 body_works w s0 s1 i p x1 (worked.Runs line) h =
-    let s : Served = served s0.total p.header.procedure p.payload in
-    (run_of p s.answer, h.run_is,
-    ap (λ (es : List Entry). record { world = record w { server = record s0 { workers = set s0.workers (i - 1) (rules.Ran p s.answer); entries = es; total = s.total } }; acts = Works i p.header.call.number rules.Runs ∷ HasRun (run_of p s.answer) ∷ [] }) (with_entry-kept s0.entries p.header.call.activity)
-    ∙ ap (λ (t : Server). record { world = record w { server = t }; acts = Works i p.header.call.number rules.Runs ∷ HasRun (run_of p s.answer) ∷ [] }) (put_back s0 s1 (i - 1) s0.entries s.total (rules.Ran p s.answer) x1 h.worker h.server))
+    let s : Served = served s0.total p.header.procedure p.payload in (
+      run_of p s.answer,
+      h.run_is,
+      ap (λ (es : List Entry). record { world = record w { server = record s0 { workers = set s0.workers (i - 1) (rules.Ran p s.answer); entries = es; total = s.total } }; acts = Works i p.header.call.number rules.Runs ∷ HasRun (run_of p s.answer) ∷ [] }) (with_entry-kept s0.entries p.header.call.activity)
+          ∙ ap (λ (t : Server). record { world = record w { server = t }; acts = Works i p.header.call.number rules.Runs ∷ HasRun (run_of p s.answer) ∷ [] }) (put_back s0 s1 (i - 1) s0.entries s.total (rules.Ran p s.answer) x1 h.worker h.server),
+    )
 body_works w s0 s1 i p x1 worked.Impossible h = absurd h.run_is
 body_works w s0 s1 i p x1 worked.Rests h = absurd h.run_is
 body_works w s0 s1 i p x1 (worked.Step n d) h = absurd h.run_is

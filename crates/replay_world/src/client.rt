@@ -7,14 +7,13 @@ ghost use Rattle.replay_model.specs.World.{World, Client, numbered, number_limit
 ghost use Rattle.replay_model.specs.Step as step;
 ghost use Rattle.replay_model.specs.Service as service;
 
+use crate::sent::Sent;
+use crate::service::{arguments_of, procedure_of};
 use caller_core::{Action, Caller};
 use replay_model::CallWord;
 use rpc_header::{Activity, CallNumber, Export, number};
 use std::alloc::{AllocError, Global};
 use std::marker::Model;
-
-use crate::sent::Sent;
-use crate::service::{arguments_of, procedure_of};
 
 /// The binding that a client boots with.
 const FIRST_BINDING: Export = Export {
@@ -133,7 +132,9 @@ impl ClientLine {
     {
         let arguments = arguments_of(alloc, word)?;
         let payload = Vec::from_slice(alloc, arguments.as_slice())?;
-        let action = self.caller.start_call(number, self.binding, procedure_of(word), payload.len());
+        let action = self
+            .caller
+            .start_call(number, self.binding, procedure_of(word), payload.len());
         self.number = number;
         self.next = number.value + 1;
         self.arguments = arguments;

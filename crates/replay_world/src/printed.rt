@@ -10,13 +10,12 @@ ghost use Rattle.replay_world.specs.Worker.{did_of};
 ghost use Rattle.replay_world.specs.Unfit.{unfit_of};
 ghost use Rattle.replay_world.specs.Discard.{discard_of};
 
-use lane_checksum::{Digest, HEAD};
-use rpc_header::{CallId, Kind};
-use std::alloc::{AllocError, Global};
-
 use crate::run_line::{RunLine, Tally};
 use crate::sent::Sent;
 use crate::worker::{Did, Unfit};
+use lane_checksum::{Digest, HEAD};
+use rpc_header::{CallId, Kind};
+use std::alloc::{AllocError, Global};
 
 /// Why a delivery ends without a packet handed on.
 #[derive(Clone, Copy, PartialEq, Eq)]
@@ -43,7 +42,10 @@ pub fn put_impossible(out: &mut Vec<u8>) -> Result<(), AllocError>
 pub fn put_start(alloc: Global, out: &mut Vec<u8>, call: CallId) -> Result<(), AllocError>
     ensures { OnOk result (out.new.items ≡ out.old.items ++ (codes "start " ++ call_text (call_of call) ++ newline)) }
 {
-    let line = format!(in alloc; "start {}.{} {}\n", call.activity.machine, call.activity.process, call.number.value)?;
+    let line = format!(in alloc;
+        "start {}.{} {}\n",
+        call.activity.machine, call.activity.process, call.number.value
+    )?;
     put(out, line.as_str())
 }
 
@@ -234,16 +236,14 @@ pub fn put_return(
     put(out, "\n")
 }
 
-fn put_call(
-    alloc: Global,
-    out: &mut Vec<u8>,
-    word: &str,
-    call: CallId,
-) -> Result<(), AllocError>
+fn put_call(alloc: Global, out: &mut Vec<u8>, word: &str, call: CallId) -> Result<(), AllocError>
     ensures { OnOk result (out.new.items ≡ out.old.items ++ (word.now ++ blank ++ call_text (call_of call) ++ blank)) }
 {
     put(out, word)?;
-    let line = format!(in alloc; " {}.{} {} ", call.activity.machine, call.activity.process, call.number.value)?;
+    let line = format!(in alloc;
+        " {}.{} {} ",
+        call.activity.machine, call.activity.process, call.number.value
+    )?;
     put(out, line.as_str())
 }
 
@@ -313,12 +313,7 @@ pub fn put_runs(alloc: Global, out: &mut Vec<u8>, runs: &[RunLine]) -> Result<()
     Ok(())
 }
 
-fn put_run(
-    alloc: Global,
-    out: &mut Vec<u8>,
-    number: usize,
-    run: &RunLine,
-) -> Result<(), AllocError>
+fn put_run(alloc: Global, out: &mut Vec<u8>, number: usize, run: &RunLine) -> Result<(), AllocError>
     ensures { OnOk result (out.new.items ≡ out.old.items ++ run_digest_line number run.now) }
 {
     put_number(alloc, out, number)?;
@@ -385,12 +380,7 @@ fn put_ran(
     put(out, line.as_str())
 }
 
-fn put_lost(
-    alloc: Global,
-    out: &mut Vec<u8>,
-    failed: u64,
-    refused: u64,
-) -> Result<(), AllocError>
+fn put_lost(alloc: Global, out: &mut Vec<u8>, failed: u64, refused: u64) -> Result<(), AllocError>
     ensures { OnOk result (out.new.items ≡ out.old.items ++ (codes " failed " ++ decimal failed ++ codes " refused " ++ decimal refused ++ newline)) }
 {
     let line = format!(in alloc; " failed {failed} refused {refused}\n")?;

@@ -6,12 +6,11 @@ ghost use Rattle.replay_world.specs.Digests.{run_digest, counts_run, counts_retu
 ghost use Rattle.replay_world.specs.Service.{answer_of};
 ghost use Rattle.call_rules.specs.Worker as rules;
 
+use crate::sent::Sent;
+use crate::service::Answer;
 use lane_checksum::{Digest, digest_of};
 use rpc_header::CallId;
 use std::marker::Model;
-
-use crate::sent::Sent;
-use crate::service::Answer;
 
 /// A line of the journal: one run of a body, with digests of what it took and gave.
 #[derive(Drop)]

@@ -5,11 +5,10 @@ ghost use Rattle.call_rules.specs.Packet.{fields_of, piece_size};
 ghost use Rattle.call_rules.specs.Worker as rules;
 ghost use Rattle.replay_world.specs.Service.{answer_of};
 
+use crate::service::Answer;
 use rpc_header::{Header, Kind};
 use std::alloc::{AllocError, Global};
 use std::marker::Model;
-
-use crate::service::Answer;
 
 /// The most data that one packet carries.
 pub const PIECE_BYTES: usize = 1440;
@@ -124,5 +123,9 @@ fn front(text: &[u8], most: usize) -> &[u8]
     ensures front { result.now ≡ take most text.now }
     ensures short { length result.now ≤ most }
 {
-    if text.len() > most { &text[..most] } else { text }
+    if text.len() > most {
+        &text[..most]
+    } else {
+        text
+    }
 }

@@ -9,23 +9,24 @@ ghost use Rattle.replay_model.specs.Step as step;
 ghost use Rattle.replay_world.specs.Entry.{word_of_word};
 ghost use Rattle.replay_world.specs.Unfit.{unfit_of};
 
-use rpc_header::Activity;
-use std::alloc::{AllocError, Global};
-use std::collections::VecDeque;
-use std::marker::Model;
-
 use crate::client::PROCESSES;
 use crate::entry::{Entry, Word};
 use crate::run_line::RunLine;
 use crate::sent::Sent;
 use crate::service::{Answer, serve};
 use crate::worker::{Did, Unfit, Worker, WorkerState, unfit_for};
+use rpc_header::Activity;
+use std::alloc::{AllocError, Global};
+use std::collections::VecDeque;
+use std::marker::Model;
 
 /// The most packets that are ready at a time.
 const READY_CELLS: usize = 64;
 
 const EXPORT_ROWS: usize = 16;
+
 const ENTRIES: usize = 64;
+
 const WORKERS: usize = 4;
 
 /// An interface that the server exports.
@@ -79,8 +80,18 @@ impl Model for ServerMachine {
 
     ghost Value = { Server };
 
-    ghost view = { λ s. record { small = s.small; long = s.long; boot = s.boot; read = s.read; rows = s.rows.items; next = s.next;
-        entries = s.entries.items; workers = s.workers.items; ready = s.ready.items; total = s.total } };
+    ghost view = { λ s. record {
+      small = s.small;
+      long = s.long;
+      boot = s.boot;
+      read = s.read;
+      rows = s.rows.items;
+      next = s.next;
+      entries = s.entries.items;
+      workers = s.workers.items;
+      ready = s.ready.items;
+      total = s.total;
+    } };
 }
 
 /// What a worker's step was.
@@ -197,7 +208,13 @@ impl ServerMachine {
                     carrier: packet,
                     seen,
                 };
-                (state, Worked::Step { number, did: Did::Claims })
+                (
+                    state,
+                    Worked::Step {
+                        number,
+                        did: Did::Claims,
+                    },
+                )
             }
         }
     }
@@ -214,7 +231,13 @@ impl ServerMachine {
             return dropped(number, Unfit::Lost);
         }
         self.set_entry(call.activity, Entry::running(call.number));
-        (WorkerState::Admitted(carrier), Worked::Step { number, did: Did::Admits })
+        (
+            WorkerState::Admitted(carrier),
+            Worked::Step {
+                number,
+                did: Did::Admits,
+            },
+        )
     }
 
     /// The body of an admitted call runs.

@@ -44,7 +44,12 @@ pub fn arguments_of(alloc: Global, word: CallWord) -> Result<Vec<u8>, AllocError
 }
 
 /// Runs a procedure's body.
-pub fn serve(alloc: Global, total: u32, procedure: u16, arguments: &[u8]) -> Result<Served, AllocError>
+pub fn serve(
+    alloc: Global,
+    total: u32,
+    procedure: u16,
+    arguments: &[u8],
+) -> Result<Served, AllocError>
     ensures { IfOk result (λ s. served_of s ≡ rules.served total procedure arguments.now) }
 {
     match procedure {

@@ -1,9 +1,8 @@
 //! The empty call.
 
+use crate::World;
 use replay_model::{CallWord, Event};
 use std::test::Fail;
-
-use crate::World;
 
 const EMPTY_CALL: &[u8] = b"start 2.1 65536\n\
 packet 1 2>1 call 65536/0 -l 0\n\

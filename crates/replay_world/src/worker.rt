@@ -7,26 +7,19 @@ ghost use Rattle.call_rules.specs.Worker as rules;
 ghost use Rattle.replay_world.specs.Entry.{judged_of};
 ghost use Rattle.replay_world.specs.Unfit.{unfit_of};
 
-use std::marker::Model;
-
 use crate::entry::{Judged, Word};
 use crate::sent::Sent;
 use crate::service::Answer;
+use std::marker::Model;
 
 /// What a worker is doing. One that isn't idle holds the packet that it claimed.
 #[derive(Drop)]
 pub enum WorkerState {
     Idle,
     /// It has seen this word of the entry.
-    Claimed {
-        carrier: Sent,
-        seen: Word,
-    },
+    Claimed { carrier: Sent, seen: Word },
     Admitted(Sent),
-    Ran {
-        carrier: Sent,
-        answer: Answer,
-    },
+    Ran { carrier: Sent, answer: Answer },
 }
 
 /// One worker.

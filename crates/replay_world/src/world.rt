@@ -13,11 +13,6 @@ ghost use Rattle.replay_world.specs.Stored.{load};
 ghost use Rattle.replay_world.specs.Stands.{Stands};
 ghost use Rattle.replay_world.specs.Played.{world_with, Keeps, Plays};
 
-use lane_checksum::digest_of;
-use replay_model::{CallWord, Event};
-use std::alloc::{AllocError, Global};
-use std::marker::Model;
-
 use crate::client::{Called, ClientMachine, SERVER_MACHINE, Took};
 use crate::printed::{
     Discard, put_discard, put_end, put_impossible, put_packet, put_ready, put_rest, put_return,
@@ -27,8 +22,13 @@ use crate::run_line::{RunLine, Tally};
 use crate::sent::Sent;
 use crate::server::{ServerMachine, Worked};
 use crate::worker::Did;
+use lane_checksum::digest_of;
+use replay_model::{CallWord, Event};
+use std::alloc::{AllocError, Global};
+use std::marker::Model;
 
 const FIRST_CLIENT: u8 = 2;
+
 const CLIENTS: u8 = 8;
 
 /// The second in which all machines boot.
@@ -141,12 +141,7 @@ impl World {
     }
 
     /// A packet comes to its receiver.
-    fn deliver(
-        &mut self,
-        alloc: Global,
-        number: u32,
-        out: &mut Vec<u8>,
-    ) -> Result<(), AllocError>
+    fn deliver(&mut self, alloc: Global, number: u32, out: &mut Vec<u8>) -> Result<(), AllocError>
         requires number { 1 ≤ number }
         requires few { load self.old < 2 ^ 62 }
         ensures played { (r : Records) → Keeps self.old r → OnOk result (Plays out.old.items out.new.items self.new r
@@ -248,11 +243,7 @@ fn boot_clients(alloc: Global) -> Result<Vec<ClientMachine>, AllocError>
 {
     let mut clients = Vec::new(alloc);
     for place in 0..CLIENTS {
-        clients.push(ClientMachine::boot(
-            alloc,
-            FIRST_SECOND,
-            FIRST_CLIENT + place,
-        )?)?;
+        clients.push(ClientMachine::boot(alloc, FIRST_SECOND, FIRST_CLIENT + place)?)?;
     }
     Ok(clients)
 }

@@ -34,6 +34,6 @@ returns-clause-outcome c w k c' =
     let m : l.caller.number ≡ c.args.packet.now.header.call.number = sym c.self.invariant ∙ (c.if-self-header.false ∙ n) in
     rw (← c.self.view_is)
     (elim c.match-on_packet.branch [
-        in-Last v ↦ rw v.result-is (took_last w k c.args.packet.now c' l c.on_packet.new.self c.on_packet.result v.in-Last.signal i m b a v.in-Last.is)
-        | in_default v ↦ rw v.result-is (took_unused w k c.args.packet.now c' l c.on_packet.result i m a v.in_default.not-Last)
+      | in-Last v ↦ rw v.result-is (took_last w k c.args.packet.now c' l c.on_packet.new.self c.on_packet.result v.in-Last.signal i m b a v.in-Last.is)
+      | in_default v ↦ rw v.result-is (took_unused w k c.args.packet.now c' l c.on_packet.result i m a v.in_default.not-Last)
     ])

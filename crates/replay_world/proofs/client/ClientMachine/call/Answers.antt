@@ -29,11 +29,12 @@ returns-in_default-clause-outcome c w =
     let before : World = record w { second = c.args.second } in
     let some = numbered-some 1 items c.args.process line (omega arith) (omega (arith, c.self.inside.lines.ok.0)) (c.index_mut-line.ensures.value ∙ ap (λ (i : ℕ). get_or items (i - 1) line) c.from-place.ensures) in
     let outcome : List Line → ℕ → Outcome = λ lines next. record { world = with_client before c.args.machine (record self { read = c.args.second; lines = lines }); acts = TooFast line.caller.activity next c.args.second ∷ [] } in
-    rw (← c.self.view_is)
-    (line.caller.activity,
-    call_by-fast before c.args.machine c.args.process self line c.args.word some (sym c.is_idle.ensures ∙ c.if-not-is_idle.false) c.in_default.ensures
-    ∙ (ap (λ (lines : List Line). outcome lines line.next) (sym (set-same items (c.from-place.result - 1) line c.index_mut-line.ensures.value))
-    ∙ ap (outcome (set items (c.from-place.result - 1) line)) (sym (ap (λ (l : Line). l.next) c.line.view_is))))
+    rw (← c.self.view_is) (
+      line.caller.activity,
+      call_by-fast before c.args.machine c.args.process self line c.args.word some (sym c.is_idle.ensures ∙ c.if-not-is_idle.false) c.in_default.ensures
+          ∙ (ap (λ (lines : List Line). outcome lines line.next) (sym (set-same items (c.from-place.result - 1) line c.index_mut-line.ensures.value))
+          ∙ ap (outcome (set items (c.from-place.result - 1) line)) (sym (ap (λ (l : Line). l.next) c.line.view_is))),
+    )
 
 pub returns-clause-outcome : goal.returns-clause-outcome
 returns-clause-outcome c w =

@@ -89,7 +89,7 @@ returns-in_ok-put_start-in-Starts-clause-played c r k =
     let did : CallsAs w m new (called.Starts packet) by = subst (λ (d : Called). CallsAs w m new d by) c.in-Starts.is (c.in_ok-call.ensures.outcome w) in
     let at : ℕ → Stored = λ i. record s { clients = set s.clients i new; bag = s.bag ++ packet ∷ [] } in
     let start : middle ≡ before ++ lines_of_act (Starts (start_of packet)) =
-        c.in_ok-put_start-in-Starts.ensures ∙ ap (λ (h : Fields). before ++ (codes "start " ++ call_text h.call ++ newline)) c.header.ensures in
+    c.in_ok-put_start-in-Starts.ensures ∙ ap (λ (h : Fields). before ++ (codes "start " ++ call_text h.call ++ newline)) c.header.ensures in
     rw (← c.self.view_is)
     (on_ok_both c.send.result (λ b e. subst (λ (x : Stored). Plays before after x r o) (sym (b ∙ ap at c.from-place.ensures))
     (plays_as before after (at (m - 2)) r o _ (call_event-some w m c.args.process (numbered 2 s.clients m) client c.args.word some ∙ did)

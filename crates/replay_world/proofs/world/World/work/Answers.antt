@@ -79,10 +79,10 @@ returns-in_ok-push-in-Runs-clause-played c r k =
     let line : the_view_of_line c.line.inside ≡ run_digest run = c.line.view_is ∙ did.1 in
     let at : List RunDigest → Counts → Stored = λ runs counts. record s { server = new; runs = runs; counts = counts } in
     let same : at c.push.new.self.items c.count_run.new.self ≡ at (s.runs ++ run_digest run ∷ []) (counts_run s.counts) =
-        ap (λ (xs : List RunDigest). at xs c.count_run.new.self) (c.in_ok-push-in-Runs.ensures.items ∙ ap (λ (x : RunDigest). s.runs ++ x ∷ []) did.1)
-        ∙ ap (at (s.runs ++ run_digest run ∷ [])) c.count_run.ensures in
+    ap (λ (xs : List RunDigest). at xs c.count_run.new.self) (c.in_ok-push-in-Runs.ensures.items ∙ ap (λ (x : RunDigest). s.runs ++ x ∷ []) did.1)
+    ∙ ap (at (s.runs ++ run_digest run ∷ [])) c.count_run.ensures in
     let works : after ≡ before ++ lines_of_act (Works c.args.worker run.call.number rules.Runs) =
-        c.in_ok-put_work-in-Runs.ensures ∙ ap (λ (x : RunDigest). before ++ lines_of_act (Works c.args.worker x.call.number rules.Runs)) line in
+    c.in_ok-put_work-in-Runs.ensures ∙ ap (λ (x : RunDigest). before ++ lines_of_act (Works c.args.worker x.call.number rules.Runs)) line in
     rw (← c.self.view_is)
     (subst (λ (x : Stored). Plays before after x r o) (sym same)
     (plays_as before after (at (s.runs ++ run_digest run ∷ []) (counts_run s.counts)) r o _ did.2
@@ -103,7 +103,7 @@ returns-in_ok-put_work-in-Replies-clause-played c r k =
     let did : WorksAs w c.args.worker new (worked.Replies packet) o = subst (λ (d : Worked). WorksAs w c.args.worker new d o) c.in-Replies.is (c.in_ok-work.ensures.outcome w) in
     let s' : Stored = record s { server = new; bag = s.bag ++ packet ∷ [] } in
     let works : middle ≡ before ++ lines_of_act (Works c.args.worker packet.header.call.number rules.Replies) =
-        c.in_ok-put_work-in-Replies.ensures ∙ ap (λ (h : Fields). before ++ lines_of_act (Works c.args.worker h.call.number rules.Replies)) c.header.ensures in
+    c.in_ok-put_work-in-Replies.ensures ∙ ap (λ (h : Fields). before ++ lines_of_act (Works c.args.worker h.call.number rules.Replies)) c.header.ensures in
     rw (← c.self.view_is)
     (on_ok_both c.send.result (λ b e. subst (λ (x : Stored). Plays before after x r o) (sym b)
     (plays_as before after s' r o _ did
