@@ -41,8 +41,8 @@ impl From<AllocError> for ReadAll {
 // How many bytes one read asks for at most.
 const CHUNK: usize = 4096;
 
-/// Reads all that is left, which may be `limit` bytes. What comes first decides: the end, a read that fails,
-/// byte `limit + 1`, or want of memory.
+/// Reads to the end, where at most `limit` bytes are left. What comes first decides: the end, a read that
+/// fails, byte `limit + 1`, or want of memory.
 pub fn read_all<S: Source>(alloc: Global, source: &mut S, limit: usize) -> Result<Vec<u8>, ReadAll>
     // All that was left, and nothing is left now.
     ensures all { IfOk result (λ bytes. IfSome (S.left source.old) (λ left. bytes.items ≡ left)) }

@@ -1,5 +1,5 @@
 -- The total of a text that was cut into chunks of an even length.
-use Rattle.std.proofs.Common.{◌≡◌, ℕ, ◌+◌, ◌*◌, ◌/◌, ◌%◌, ◌≤◌, ◌<◌, List, [], ◌∷◌, ◌++◌, length, take, drop, get_or, zero, suc, Fits, w8, Some, None, slice_get, refl, sym, subst, ◌∙◌, ap, add_assoc, zero-add, length-drop, arith}
+use Rattle.std.proofs.Common.{◌≡◌, ℕ, ◌+◌, ◌*◌, ◌/◌, ◌%◌, ◌≤◌, ◌<◌, List, [], ◌∷◌, length, take, drop, get_or, zero, suc, Fits, w8, Some, None, slice_get, refl, sym, subst, ◌∙◌, ap, add_assoc, zero-add, length-drop, arith}
 use Rattle.std.proofs.Math.Nat.{suc-mul, mul-le-mul_right, div-mul-le_self}
 use Rattle.std.proofs.lemmas.Simd.{chunk-fits}
 use Rattle.std.specs.Simd.Lanes.{Each1}

@@ -1,4 +1,4 @@
 pub mod Reduced
 pub mod Sums
-pub mod Chunks
-pub mod LaneSums
+mod Chunks
+mod LaneSums

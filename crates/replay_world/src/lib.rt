@@ -11,6 +11,8 @@ mod service;
 mod worker;
 mod world;
 
+pub use replay_model::{CallWord, Event};
+pub use script_text::{Script, ScriptFault, parse_script};
 pub use world::World;
 
 #[cfg(test)]

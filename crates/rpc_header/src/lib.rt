@@ -6,6 +6,16 @@ ghost use Rattle.std.specs.Prelude.{◌≡◌, ◌<◌, ◌≤◌, ◌^◌, ◌�
 
 use thiserror::Error;
 
+mod laws;
+mod layout;
+mod reading;
+mod writing;
+
+pub use laws::{what_is_read_was_written, what_is_written_is_read};
+pub use layout::{HEADER_LEN, MAX_DATA};
+pub use reading::read_header;
+pub use writing::{fits, write_header};
+
 /// The first number that is no call number: a call number has 48 bits.
 pub const CALL_NUMBER_LIMIT: u64 = 1 << 48;
 
@@ -112,3 +122,6 @@ pub fn number(n: u64) -> Option<CallNumber>
         None
     }
 }
+
+#[cfg(test)]
+mod tests;

@@ -1,5 +1,5 @@
 -- Each block adds its sum to that of the blocks before it.
-use Rattle.std.proofs.Common.{◌+◌, ◌*◌, ◌<◌, ◌≤◌, ◌/◌, ◌%◌, length, List, [], get_or, take, take_all, refl, ap, sym, ◌∙◌, arith}
+use Rattle.std.proofs.Common.{◌+◌, ◌<◌, ◌/◌, length, [], get_or, take, take_all, refl, ap, sym, ◌∙◌, arith}
 use Rattle.lane_checksum.specs.PlainSum.{reduced, word_total}
 use Rattle.lane_checksum.proofs.Chunks.{chunk_total, chunk_total-take, chunks_total, length-chunks_at}
 use Rattle.lane_checksum.proofs.Reduced.{reduced-zero, reduced-add_both}

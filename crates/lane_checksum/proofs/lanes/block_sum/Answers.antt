@@ -1,5 +1,5 @@
 -- The lanes hold the chunks that were read, and the plain loop reads what is left.
-use Rattle.std.proofs.Common.{◌≡◌, ◌≤◌, length, ℕ, ◌+◌, ◌*◌, ◌<◌, ◌/◌, ◌%◌, List, [], get_or, take, take_all, w64, zero-add, refl, ap, sym, ◌∙◌, arith}
+use Rattle.std.proofs.Common.{◌≡◌, length, ◌+◌, ◌*◌, ◌<◌, ◌/◌, [], get_or, take, take_all, w64, zero-add, refl, ap, sym, ◌∙◌, arith}
 use Rattle.std.proofs.lemmas.Simd.{adds_fit, sum_fits, fold-sum}
 use Rattle.std.specs.Simd.Lanes.{sum_l, number_l}
 use Rattle.lane_checksum.specs.PlainSum.{reduced, word_total}
@@ -26,8 +26,8 @@ loop-step-preserved c =
     let fits = chunks_at_fit 32 bytes steps cut.front i within c.type_inv.bytes in
     record {
       so_far =
-        reduced_step lanes chunk (chunk_total (take i steps)) c.loop-step.invariant.eight long fits c.loop-step.invariant.so_far
-        ∙ ap reduced (sym (chunk_total-take steps i c.loop-step-test.true));
+          reduced_step lanes chunk (chunk_total (take i steps)) c.loop-step.invariant.eight long fits c.loop-step.invariant.so_far
+          ∙ ap reduced (sym (chunk_total-take steps i c.loop-step-test.true));
       eight = omega arith;
       small = omega (arith, sum-lanes_of lanes chunk c.loop-step.invariant.eight, digits_bound 8 (number_l 256 chunk));
     }
@@ -43,12 +43,12 @@ returns c =
     let lanes = c.loop-step.lanes in
     let whole = chunks_total 32 c.args.bytes.now steps cut.front rest refl cut.back in
     let front : c.swap_bytes-front.result ≡ reduced (chunk_total steps) =
-      c.swap_bytes-front.ensures
-      ∙ sym (reduced-swapped c.fold.result c.fold.type_inv)
-      ∙ ap (λ s. reduced (256 * s)) (c.fold.ensures ∙ ap reduced (fold-sum 0 lanes ∙ zero-add (sum_l lanes)))
-      ∙ reduced-mul_256 (sum_l lanes)
-      ∙ c.loop-step.invariant.so_far
-      ∙ ap (λ cs. reduced (chunk_total cs)) (take_all c.loop-step.step-index steps c.loop-step-test.false) in
+    c.swap_bytes-front.ensures
+    ∙ sym (reduced-swapped c.fold.result c.fold.type_inv)
+    ∙ ap (λ s. reduced (256 * s)) (c.fold.ensures ∙ ap reduced (fold-sum 0 lanes ∙ zero-add (sum_l lanes)))
+    ∙ reduced-mul_256 (sum_l lanes)
+    ∙ c.loop-step.invariant.so_far
+    ∙ ap (λ cs. reduced (chunk_total cs)) (take_all c.loop-step.step-index steps c.loop-step-test.false) in
     c.add.ensures.total
     ∙ ap (λ s. reduced (s + c.plain_sum.result)) front
     ∙ ap (λ s. reduced (reduced (chunk_total steps) + s)) c.plain_sum.ensures

@@ -1,4 +1,4 @@
-use Rattle.std.proofs.Common.{◌≡◌, ◌≤◌, ◌*◌, ◌+◌, take, length}
+use Rattle.std.proofs.Common.{◌≡◌, ◌≤◌, ◌*◌, take, length}
 use Rattle.std.specs.Simd.Lanes.{sum_l}
 use Rattle.lane_checksum.specs.PlainSum.{reduced}
 use Rattle.lane_checksum.proofs.Chunks.{chunk_total}

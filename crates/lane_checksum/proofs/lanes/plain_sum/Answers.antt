@@ -1,5 +1,5 @@
 -- Each word adds its share to the sum of those before it.
-use Rattle.std.proofs.Common.{◌≡◌, ◌≤◌, length, ℕ, ◌+◌, ◌*◌, ◌<◌, ◌/◌, ◌%◌, List, [], get_or, take, take_all, refl, ap, sym, ◌∙◌, arith}
+use Rattle.std.proofs.Common.{◌≡◌, ◌+◌, [], get_or, take, take_all, refl, ap, sym, ◌∙◌, arith}
 use Rattle.lane_checksum.specs.PlainSum.{reduced, word_total}
 use Rattle.lane_checksum.proofs.Chunks.{chunk_total, chunk_total-take, chunks_total, length-chunks_at, word_total-pair, word_total-some, word_total-none}
 use Rattle.lane_checksum.proofs.Reduced.{reduced-zero, reduced-add_left}

@@ -1,0 +1,58 @@
+#!/bin/sh
+# Prints the time that a script line takes, for scripts of about 2,000, 6,000 and 18,000 lines, and its ratio to that
+# of the smallest: the cost of a script should grow linearly with its lines. In these scripts the 64 activities have
+# calls open at once, again and again. Each is played several times, and the best run counts; what the program takes
+# to start is measured by the shortest script and left out. It is run by hand and is no part of the gate: the times
+# are the machine's, and a busy machine's are worth little.
+set -eu
+cd "$(dirname "$0")/.."
+runs=${1:-15}
+work=$(mktemp -d)
+trap 'rm -rf "$work"' EXIT
+
+# script CALLS: the activities in turn call Null, as many at once as there are activities; the packets are delivered
+# in their order, and worker after worker makes the four steps of the oldest call that is ready.
+script() {
+    awk -v calls="$1" '
+        BEGIN {
+            for (made = 0; made < calls; made += open) {
+                open = calls - made < 64 ? calls - made : 64
+                for (i = 0; i < open; i++) print "call", 2 + int(i / 8), 1 + i % 8, "null"
+                for (i = 0; i < open; i++) print "deliver", 2 * made + 1 + i
+                for (i = 0; i < open; i++) for (step = 0; step < 4; step++) print "work", 1 + i % 4
+                for (i = 0; i < open; i++) print "deliver", 2 * made + open + 1 + i
+            }
+            print "journal"
+            print "end"
+        }'
+}
+
+echo end > "$work/0.script"
+./ffrpc replay < "$work/0.script" > "$work/0.out"
+for calls in 285 857 2571; do
+    script "$calls" > "$work/$calls.script"
+    [ "$(wc -c < "$work/$calls.script")" -le 1048576 ]
+    ./ffrpc replay < "$work/$calls.script" > "$work/$calls.out"
+    wanted="end runs $calls returned $calls signalled 0 failed 0 refused 0"
+    [ "$(tail -n 1 "$work/$calls.out")" = "$wanted" ] || { echo "$calls calls: not all returned"; exit 1; }
+done
+
+python3 - "$runs" "$work" 0 285 857 2571 <<'PYTHON'
+import subprocess, sys, time
+
+runs, work, names = int(sys.argv[1]), sys.argv[2], sys.argv[3:]
+
+def once(name):
+    with open(f"{work}/{name}.script") as script:
+        start = time.perf_counter()
+        subprocess.run(["crates/ffrpc/out/ffrpc", "replay"], stdin=script, stdout=subprocess.DEVNULL, check=True)
+        return time.perf_counter() - start
+
+best = {name: min(once(name) for _ in range(runs)) for name in names}
+least = None
+for name in names[1:]:
+    lines = sum(1 for _ in open(f"{work}/{name}.script"))
+    spent = best[name] - best["0"]
+    least = least or spent / lines
+    print(f"{lines:6} lines: {1000 * spent:8.2f} ms, {1e6 * spent / lines:7.3f} microseconds a line, ratio {spent / lines / least:.2f}")
+PYTHON

@@ -1,0 +1,10 @@
+pub mod Lists
+pub mod Places
+pub mod Parts
+pub mod Growth
+pub mod Starting
+pub mod Delivering
+pub mod Workers
+pub mod Rows
+pub mod Steps
+pub mod Whole

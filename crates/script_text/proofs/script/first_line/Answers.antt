@@ -1,0 +1,13 @@
+-- The text is cut at its first newline, or is one line.
+use Rattle.std.proofs.Common.{◌∙◌, sym, arith}
+use Rattle.std.proofs.lemmas.Bool.{eqb-false}
+use Rattle.script_text.proofs.Lines.{line_at, last_line}
+use Rattle.script_text.proofs.script.first_line.Goals as goal
+
+pub returns-in-Some-clause-lines : goal.returns-in-Some-clause-lines
+returns-in-Some-clause-lines c = line_at c.args.text.now c.in-Some.end (sym c.first_newline.ensures ∙ c.in-Some.is)
+
+pub returns-in-None-clause-lines : goal.returns-in-None-clause-lines
+returns-in-None-clause-lines c =
+    let some = eqb-false _ _ (sym c.is_empty.ensures ∙ c.if-is_empty.false) in
+    last_line c.args.text.now (sym c.first_newline.ensures ∙ c.in-None.is) (omega arith)

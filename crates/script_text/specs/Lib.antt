@@ -1,0 +1,4 @@
+pub mod Ends
+pub mod Number
+pub mod Reading
+pub mod Words

@@ -1,0 +1,97 @@
+//! Frames that are worked out by hand, byte by byte, and one damage for each fault.
+use super::*;
+use ff_io::Station;
+use std::test::Fail;
+
+/// An empty call from machine 2 to machine 1.
+const EMPTY_CALL: [u8; 74] = [
+    0x02, 0x00, 0x0a, 0x00, 0x00, 0x01, 0x02, 0x00, 0x0a, 0x00, 0x00, 0x02, 0x08, 0x00, 0x45, 0x00,
+    0x00, 0x3c, 0x00, 0x00, 0x00, 0x00, 0x40, 0x11, 0x66, 0xaf, 0x0a, 0x00, 0x00, 0x02, 0x0a, 0x00,
+    0x00, 0x01, 0x0f, 0xa3, 0x0f, 0xa3, 0x00, 0x28, 0xc9, 0x4f, 0x01, 0x01, 0x02, 0x00, 0x00, 0x00,
+    0x00, 0x02, 0x00, 0x01, 0x00, 0x00, 0x00, 0x00, 0x00, 0x01, 0x00, 0x00, 0x00, 0x00, 0x00, 0x00,
+    0x00, 0x01, 0x00, 0x00, 0x00, 0x00, 0x00, 0x00, 0x00, 0x00,
+];
+
+/// A call from machine 2 to machine 1 whose data makes its UDP checksum come out as 0, which is sent as ffff.
+const CHECKSUM_OF_ZERO: [u8; 82] = [
+    0x02, 0x00, 0x0a, 0x00, 0x00, 0x01, 0x02, 0x00, 0x0a, 0x00, 0x00, 0x02, 0x08, 0x00, 0x45, 0x00,
+    0x00, 0x44, 0x00, 0x00, 0x00, 0x00, 0x40, 0x11, 0x66, 0xa7, 0x0a, 0x00, 0x00, 0x02, 0x0a, 0x00,
+    0x00, 0x01, 0x0f, 0xa3, 0x0f, 0xa3, 0x00, 0x30, 0xff, 0xff, 0x01, 0x01, 0x02, 0x00, 0x00, 0x00,
+    0x00, 0x02, 0x00, 0x01, 0x00, 0x00, 0x00, 0x00, 0x00, 0x01, 0x00, 0x00, 0x00, 0x00, 0x00, 0x00,
+    0x00, 0x01, 0x00, 0x00, 0x00, 0x01, 0x00, 0x08, 0x00, 0x00, 0x00, 0x00, 0xc9, 0x36, 0x00, 0x00,
+    0x00, 0x00,
+];
+
+const SENDER: Station = Station { machine: 2 };
+
+const RECEIVER: Station = Station { machine: 1 };
+
+/// The number of bytes in front of the data.
+const HEADERS: usize = 42;
+
+#[test]
+fn worked_frames_are_written(rt: HostRuntime) -> Result<(), Fail> {
+    for frame in [EMPTY_CALL.as_slice(), CHECKSUM_OF_ZERO.as_slice()] {
+        assert!(rt; frame.len() >= HEADERS && frame.len() <= 100);
+        let mut buffer = [0xee; 100];
+        buffer[HEADERS..frame.len()].copy_from_slice(&frame[HEADERS..]);
+        write_headers(&mut buffer, SENDER, RECEIVER, frame.len() - HEADERS);
+        assert_eq!(rt; &buffer[..frame.len()], frame);
+        assert!(rt; buffer[frame.len()..].iter().all(|byte| *byte == 0xee));
+    }
+    Ok(())
+}
+
+#[test]
+fn worked_frames_are_read(rt: HostRuntime) -> Result<(), Fail> {
+    for frame in [EMPTY_CALL.as_slice(), CHECKSUM_OF_ZERO.as_slice()] {
+        let seen = read_frame(frame, RECEIVER)?;
+        assert_eq!(rt; seen.from, SENDER);
+        assert_eq!(rt; Some(seen.payload), frame.get(HEADERS..));
+    }
+    Ok(())
+}
+
+/// The empty call with these bytes in place of its own, and the fault that it then has.
+const DAMAGES: [(&[(usize, u8)], FrameFault); 17] = [
+    (&[(0, 0x82)], FrameFault::NotForUs),
+    (&[(5, 3)], FrameFault::NotForUs),
+    (&[(12, 0x88)], FrameFault::NotIp),
+    (&[(14, 0xc5)], FrameFault::Version),
+    (&[(14, 0x4d)], FrameFault::Options),
+    (&[(16, 0x80)], FrameFault::IpLength),
+    (&[(20, 0x80)], FrameFault::IpFragment),
+    // Do not fragment is no fault, but the checksum is then wrong.
+    (&[(20, 0x40)], FrameFault::IpChecksum),
+    (&[(23, 0x91)], FrameFault::NotUdp),
+    (&[(22, 0x3f)], FrameFault::IpChecksum),
+    // Machine 0, with the IP checksum made right.
+    (&[(29, 0), (25, 0xb1)], FrameFault::Address),
+    // A destination that is another machine, likewise.
+    (&[(33, 2), (25, 0xae)], FrameFault::Address),
+    (&[(34, 0x8f)], FrameFault::Port),
+    (&[(36, 0x8f)], FrameFault::Port),
+    (&[(38, 0x80)], FrameFault::UdpLength),
+    (&[(40, 0), (41, 0)], FrameFault::NoChecksum),
+    (&[(73, 1)], FrameFault::UdpChecksum),
+];
+
+#[test]
+fn damaged_frames_are_refused(rt: HostRuntime) {
+    for (bytes, fault) in DAMAGES {
+        let mut frame = EMPTY_CALL;
+        for (place, byte) in bytes {
+            assert!(rt; *place < 74);
+            frame[*place] = *byte;
+        }
+        assert_eq!(rt; read_frame(&frame, RECEIVER), Err(fault));
+    }
+    assert_eq!(rt;
+        read_frame(&EMPTY_CALL[..41], RECEIVER),
+        Err(FrameFault::Short)
+    );
+    assert_eq!(rt;
+        read_frame(&EMPTY_CALL[..73], RECEIVER),
+        Err(FrameFault::IpLength)
+    );
+}
