@@ -1,0 +1,9 @@
+pub mod Boot
+pub mod CallerRules
+pub mod ClientSteps
+pub mod DigestLines
+pub mod Numbered
+pub mod PlaySteps
+pub mod Put
+pub mod ServerSteps
+pub mod WorldSteps

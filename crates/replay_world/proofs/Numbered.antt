@@ -1,0 +1,37 @@
+-- Items of lists by their numbers, and entries by their activities.
+use Rattle.std.proofs.Common.{◌≡◌, ℕ, ◌+◌, ◌-◌, ◌≤◌, ◌<◌, List, length, Option, Some, None, get_or, set, cond, Bool, true, false, ap, sym, ◌∙◌, arith, refl}
+use Rattle.std.specs.Prelude.{unwrap_or, slice_get}
+use Rattle.std.proofs.lemmas.List.{set-get_or, set_past}
+use Rattle.std.proofs.lemmas.Bool.{le-ltb, lt-ltb, cond-true, cond-false}
+use Rattle.std.proofs.lemmas.Option.{slice_get_past, slice_get-get_or, slice_get_within, get_or_from_slice_get, unwrap_or-slice_get}
+use Rattle.rpc_header.specs.declared.Activity.{Activity}
+use Rattle.call_rules.specs.Entry.{Entry, Empty}
+use Rattle.replay_model.specs.World.{numbered, is_entry_activity, entry_place, entry_at, with_entry}
+
+-- there is no item of this number
+pub numbered-none : {A : Type 0} (from : ℕ) (xs : List A) (n : ℕ) → from ≤ n → length xs ≤ n - from → numbered from xs n ≡ None
+numbered-none {A} from xs n low past = cond-false _ _ _ (le-ltb n from low) ∙ slice_get_past xs (n - from) past
+
+-- the item of this number
+pub numbered-some : {A : Type 0} (from : ℕ) (xs : List A) (n : ℕ) (x : A) → from ≤ n → n - from < length xs → x ≡ get_or xs (n - from) x → numbered from xs n ≡ Some x
+numbered-some {A} from xs n x low within is =
+    cond-false _ _ _ (le-ltb n from low) ∙ (slice_get-get_or xs (n - from) x within ∙ ap (λ (y : A). Some y) (sym is))
+
+-- an item written back
+pub set-same : {A : Type 0} (xs : List A) (i : ℕ) (x : A) → x ≡ get_or xs i x → set xs i x ≡ xs
+set-same {A} xs i x is = ap (λ (y : A). set xs i y) is ∙ set-get_or xs i x
+
+-- an entry written back
+kept-at : (inside : Bool) (es : List Entry) (i : ℕ) → cond inside (set es i (unwrap_or (cond inside (slice_get es i) None) Empty)) es ≡ es
+kept-at true es i = ap (λ (e : Entry). set es i e) (unwrap_or-slice_get es i Empty) ∙ set-get_or es i Empty
+kept-at false es i = refl
+
+pub with_entry-kept : (es : List Entry) (a : Activity) → with_entry es a (unwrap_or (entry_at es a) Empty) ≡ es
+with_entry-kept es a = kept-at (is_entry_activity a) es (entry_place a)
+
+pub with_entry-same : (es : List Entry) (a : Activity) (o : Option Entry) → entry_at es a ≡ o → with_entry es a (unwrap_or o Empty) ≡ es
+with_entry-same es a o h = ap (λ (p : Option Entry). with_entry es a (unwrap_or p Empty)) (sym h) ∙ with_entry-kept es a
+
+-- a number below the first
+pub numbered-low : {A : Type 0} (from : ℕ) (xs : List A) (n : ℕ) → n < from → numbered from xs n ≡ None
+numbered-low {A} from xs n low = cond-true _ _ _ (lt-ltb n from low)

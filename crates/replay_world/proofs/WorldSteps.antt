@@ -1,0 +1,62 @@
+-- The events of the model by the parts of its world.
+use Rattle.std.proofs.Common.{◌≡◌, ℕ, ◌+◌, ◌-◌, List, [], ◌∷◌, ◌++◌, length, Option, Some, None, Bool, true, false, cond, get_or, set, ap, sym, subst, ◌∙◌, refl}
+use Rattle.std.specs.Prelude.{◌==◌, nat_lt}
+use Rattle.std.proofs.lemmas.Bool.{cond-true, cond-false}
+use Rattle.call_rules.specs.Packet.{Packet}
+use Rattle.replay_model.specs.declared.event.CallWord.{CallWord}
+use Rattle.replay_model.specs.Record.{Records, Counts, NoCell, NoRoom, Stale, Unused, Readies, counts_of, no_records, server_machine}
+use Rattle.replay_model.specs.World.{World, Server, Client, numbered, first_client, booted_server, first_world}
+use Rattle.replay_model.specs.Step.{Outcome, impossible, discarded, call_by, call_event, server_takes, ready_cells, client_takes, deliver_event}
+use Rattle.replay_world.specs.declared.client.Took.{Took}
+use Rattle.replay_world.specs.declared.client.Took.TheVariants as took
+use Rattle.replay_world.specs.Client.{took_outcome, took_in, KeepsMissed}
+use Rattle.replay_world.specs.Digests.{RunDigest}
+use Rattle.replay_world.specs.Stands.{Stands}
+use Rattle.replay_world.proofs.Numbered.{set-same}
+
+pub call_event-none : (w : World) (m p : ℕ) (o : Option Client) (asked : CallWord) → o ≡ None → call_event w m p o asked ≡ impossible w
+unfolding call_event
+call_event-none w m p o asked h = ap (λ (x : Option Client). call_event w m p x asked) h
+
+pub call_event-some : (w : World) (m p : ℕ) (o : Option Client) (c : Client) (asked : CallWord) → o ≡ Some c → call_event w m p o asked ≡ call_by w m p c (numbered 1 c.lines p) asked
+unfolding call_event
+call_event-some w m p o c asked h = ap (λ (x : Option Client). call_event w m p x asked) h
+
+pub deliver_event-none : (w : World) (k : ℕ) (o : Option Packet) → o ≡ None → deliver_event w k o ≡ impossible w
+unfolding deliver_event
+deliver_event-none w k o h = ap (deliver_event w k) h
+
+pub deliver_event-server : (w : World) (k : ℕ) (o : Option Packet) (p : Packet) → o ≡ Some p → (p.to == server_machine) ≡ true → deliver_event w k o ≡ server_takes w k p
+unfolding deliver_event
+deliver_event-server w k o p h to = ap (deliver_event w k) h ∙ cond-true _ _ _ to
+
+pub deliver_event-client : (w : World) (k : ℕ) (o : Option Packet) (p : Packet) → o ≡ Some p → (p.to == server_machine) ≡ false → deliver_event w k o ≡ client_takes w k p (numbered first_client w.clients p.to)
+unfolding deliver_event
+deliver_event-client w k o p h to = ap (deliver_event w k) h ∙ cond-false _ _ _ to
+
+pub client_takes-nobody : (w : World) (k : ℕ) (p : Packet) (o : Option Client) → o ≡ None → client_takes w k p o ≡ discarded w NoCell
+unfolding client_takes
+client_takes-nobody w k p o h = ap (client_takes w k p) h
+
+-- what a client did about a packet, in the world with the client after it
+pub took-by : (w : World) (xs : List Client) (j k : ℕ) (p : Packet) (c new : Client) (t : Took) → j ≡ p.to - 2 → c ≡ get_or xs j c → KeepsMissed t c new → took_outcome (record w { clients = xs }) k p new t ≡ took_in (record w { clients = set xs j new }) k p t
+took-by w xs j k p c new took.NoCell to at keep = ap (λ (ys : List Client). discarded (record w { clients = ys }) NoCell) (sym (ap (λ (x : Client). set xs j x) keep ∙ set-same xs j c at))
+took-by w xs j k p c new took.Stale to at keep = ap (λ (ys : List Client). discarded (record w { clients = ys }) Stale) (sym (ap (λ (x : Client). set xs j x) keep ∙ set-same xs j c at))
+took-by w xs j k p c new took.Unused to at keep = ap (λ (ys : List Client). discarded (record w { clients = ys }) Unused) (sym (ap (λ (x : Client). set xs j x) keep ∙ set-same xs j c at))
+took-by w xs j k p c new (took.Returned signal) to at keep = ap (λ (i : ℕ). took_in (record w { clients = set xs i new }) k p (took.Returned signal)) (sym to)
+
+pub server_takes-room : (w : World) (k : ℕ) (p : Packet) → nat_lt (length w.server.ready) ready_cells ≡ true → server_takes w k p ≡ record { world = record w { server = record w.server { ready = w.server.ready ++ p ∷ [] } }; acts = Readies k ∷ [] }
+unfolding server_takes
+server_takes-room w k p h = cond-true _ _ _ h
+
+pub server_takes-full : (w : World) (k : ℕ) (p : Packet) → nat_lt (length w.server.ready) ready_cells ≡ false → server_takes w k p ≡ discarded w NoRoom
+unfolding server_takes
+server_takes-full w k p h = cond-false _ _ _ h
+
+-- the one item of a number
+pub same_item : {A : Type 0} (o : Option A) (x y : A) → o ≡ Some x → o ≡ Some y → x ≡ y
+same_item {A} o x y e f = cc
+
+-- what is stored of the first world
+pub first_stored : (small long : ℕ) (server : Server) (clients : List Client) (bag : List Packet) (runs : List RunDigest) (counts : Counts) → server ≡ booted_server small long 1 → clients ≡ (first_world small long).clients → bag ≡ [] → runs ≡ [] → counts ≡ counts_of no_records → Stands (record { second = 1; server = server; clients = clients; bag = bag; runs = runs; counts = counts }) (first_world small long)
+first_stored small long server clients bag runs counts e f g h i = record { agrees = cc }

@@ -1,0 +1,19 @@
+//! The player of scripts: its world, which steps by events and prints the lines of each.
+#![tactic(auto)]
+
+mod client;
+mod entry;
+mod printed;
+mod run_line;
+mod sent;
+mod server;
+mod service;
+mod worker;
+mod world;
+
+pub use replay_model::{CallWord, Event};
+pub use script_text::{Script, ScriptFault, parse_script};
+pub use world::World;
+
+#[cfg(test)]
+mod tests;

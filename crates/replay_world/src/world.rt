@@ -1,0 +1,267 @@
+//! The player's world.
+
+ghost use Rattle.std.specs.Prelude.{◌≡◌, ℕ, ◌+◌, ◌<◌, ◌≤◌, ◌^◌, [], ◌∷◌, ◌++◌, length, slice_get, Some, IfOk, OnOk};
+ghost use Rattle.call_rules.specs.Packet.{Packet};
+ghost use Rattle.replay_model.specs.Record.{Records};
+ghost use Rattle.replay_model.specs.Record as act;
+ghost use Rattle.replay_model.specs.World as model;
+ghost use Rattle.replay_model.specs.Step as step;
+ghost use Rattle.replay_model.specs.Lines.{lines_of_act};
+ghost use Rattle.replay_model.specs.Transcript.{lines};
+ghost use Rattle.replay_model.specs.Script.{InRange};
+ghost use Rattle.replay_world.specs.Stored.{load};
+ghost use Rattle.replay_world.specs.Stands.{Stands};
+ghost use Rattle.replay_world.specs.Played.{world_with, Keeps, Plays};
+
+use crate::client::{Called, ClientMachine, SERVER_MACHINE, Took};
+use crate::printed::{
+    Discard, put_discard, put_end, put_impossible, put_packet, put_ready, put_rest, put_return,
+    put_runs, put_start, put_too_fast, put_work,
+};
+use crate::run_line::{RunLine, Tally};
+use crate::sent::Sent;
+use crate::server::{ServerMachine, Worked};
+use crate::worker::Did;
+use lane_checksum::digest_of;
+use replay_model::{CallWord, Event};
+use std::alloc::{AllocError, Global};
+use std::marker::Model;
+
+const FIRST_CLIENT: u8 = 2;
+
+const CLIENTS: u8 = 8;
+
+/// The second in which all machines boot.
+const FIRST_SECOND: u32 = 1;
+
+/// The world that a script is played on: a server, eight clients, and each packet that was sent.
+#[derive(Drop)]
+pub struct World {
+    second: u32,
+    server: ServerMachine,
+    clients: Vec<ClientMachine>,
+    bag: Vec<Sent>,
+    runs: Vec<RunLine>,
+    tally: Tally,
+}
+
+impl Model for World {
+    ghost use Rattle.replay_world.specs.Stored.{Stored};
+
+    ghost Value = { Stored };
+
+    ghost view = { λ w. record { second = w.second; server = w.server; clients = w.clients.items; bag = w.bag.items; runs = w.runs.items; counts = w.tally } };
+}
+
+impl World {
+    /// The world at second 1, in which all its machines boot. The server has so many small and long
+    /// buffers.
+    pub fn make(alloc: Global, small: usize, long: usize) -> Result<Self, AllocError>
+        requires small { (2 ≤ small) × (small ≤ 3000) }
+        requires long { long ≤ 1000 }
+        ensures stands { IfOk result (λ world. Stands world (model.first_world small long)) }
+        ensures load { IfOk result (λ world. load world ≡ 0) }
+    {
+        Ok(World {
+            second: FIRST_SECOND,
+            server: ServerMachine::boot(alloc, small, long, FIRST_SECOND)?,
+            clients: boot_clients(alloc)?,
+            bag: Vec::new(alloc),
+            runs: Vec::new(alloc),
+            tally: Tally::none(),
+        })
+    }
+
+    /// Steps the world, and appends the event's lines. After an `Err` the world is only closed.
+    pub fn apply(
+        &mut self,
+        alloc: Global,
+        event: &Event,
+        out: &mut Vec<u8>,
+    ) -> Result<(), AllocError>
+        requires in_range { InRange event.now }
+        requires few { load self.old < 2 ^ 62 }
+        ensures step { (w : model.World) → Stands self.old w
+            → OnOk result ((out.new.items ≡ out.old.items ++ lines w event.now) × Stands self.new (step.step w event.now)) }
+        ensures load { OnOk result (load self.new ≤ load self.old + 1000) }
+    {
+        match *event {
+            Event::Call {
+                machine,
+                process,
+                word,
+            } => self.call(alloc, machine, process, word, out),
+            Event::Deliver(packet) => self.deliver(alloc, packet, out),
+            Event::Work(worker) => self.work(alloc, worker, out),
+            Event::Journal => put_runs(alloc, out, self.runs.as_slice()),
+            Event::End => put_end(alloc, out, &self.tally),
+        }
+    }
+
+    /// A process is asked to start a call.
+    fn call(
+        &mut self,
+        alloc: Global,
+        machine: u8,
+        process: u8,
+        word: CallWord,
+        out: &mut Vec<u8>,
+    ) -> Result<(), AllocError>
+        requires machine { 2 ≤ machine }
+        requires process { 1 ≤ process }
+        requires few { load self.old < 2 ^ 62 }
+        ensures played { (r : Records) → Keeps self.old r → OnOk result (Plays out.old.items out.new.items self.new r
+            (step.call_event (world_with self.old r) machine process (model.numbered model.first_client self.old.clients machine) word)) }
+        ensures load { OnOk result (load self.new ≤ load self.old + 1) }
+    {
+        let place = usize::from(machine - FIRST_CLIENT);
+        if place >= self.clients.len() {
+            return put_impossible(out);
+        }
+        let client = &mut self.clients[place];
+        match client.call(alloc, machine, process, word, self.second)? {
+            Called::Impossible => put_impossible(out),
+            Called::TooFast(number) => put_too_fast(alloc, out, number, self.second),
+            Called::Starts(packet) => {
+                put_start(alloc, out, packet.header().call)?;
+                self.send(alloc, packet, out)
+            }
+        }
+    }
+
+    /// Sends a packet.
+    fn send(&mut self, alloc: Global, packet: Sent, out: &mut Vec<u8>) -> Result<(), AllocError>
+        requires { length self.old.bag < 2 ^ 62 }
+        ensures bag { OnOk result (self.new ≡ record self.old { bag = self.old.bag ++ packet ∷ [] }) }
+        ensures printed { OnOk result (out.new.items ≡ out.old.items ++ lines_of_act (act.Sends (length self.old.bag + 1) packet)) }
+    {
+        put_packet(alloc, out, self.bag.len() + 1, &packet)?;
+        self.bag.push(packet)?;
+        Ok(())
+    }
+
+    /// A packet comes to its receiver.
+    fn deliver(&mut self, alloc: Global, number: u32, out: &mut Vec<u8>) -> Result<(), AllocError>
+        requires number { 1 ≤ number }
+        requires few { load self.old < 2 ^ 62 }
+        ensures played { (r : Records) → Keeps self.old r → OnOk result (Plays out.old.items out.new.items self.new r
+            (step.deliver_event (world_with self.old r) number (model.packet_at self.old.bag number))) }
+        ensures load { OnOk result (load self.new ≤ load self.old + 1) }
+    {
+        let place = number as usize - 1;
+        if place >= self.bag.len() {
+            return put_impossible(out);
+        }
+        if self.bag[place].to() == SERVER_MACHINE {
+            self.deliver_to_server(alloc, number, out)
+        } else {
+            self.deliver_to_client(alloc, number, out)
+        }
+    }
+
+    fn deliver_to_server(
+        &mut self,
+        alloc: Global,
+        number: u32,
+        out: &mut Vec<u8>,
+    ) -> Result<(), AllocError>
+        requires number { 1 ≤ number }
+        requires is_there { number ≤ length self.old.bag }
+        ensures played { (r : Records) (p : Packet) → Keeps self.old r → model.packet_at self.old.bag number ≡ Some p
+            → OnOk result (Plays out.old.items out.new.items self.new r (step.server_takes (world_with self.old r) number p)) }
+        ensures load { OnOk result (load self.new ≤ load self.old) }
+    {
+        let packet = &self.bag[number as usize - 1];
+        if self.server.take(alloc, packet)? {
+            return put_ready(alloc, out, number);
+        }
+        put_discard(out, Discard::NoRoom)
+    }
+
+    fn deliver_to_client(
+        &mut self,
+        alloc: Global,
+        number: u32,
+        out: &mut Vec<u8>,
+    ) -> Result<(), AllocError>
+        requires number { 1 ≤ number }
+        requires is_there { number ≤ length self.old.bag }
+        requires few { load self.old < 2 ^ 62 }
+        ensures played { (r : Records) (p : Packet) → Keeps self.old r → model.packet_at self.old.bag number ≡ Some p
+            → OnOk result (Plays out.old.items out.new.items self.new r
+            (step.client_takes (world_with self.old r) number p (model.numbered model.first_client self.old.clients p.to))) }
+        ensures load { OnOk result (load self.new ≤ load self.old + 1) }
+    {
+        let packet = &self.bag[number as usize - 1];
+        match hand_over(&mut self.clients, packet) {
+            Took::NoCell => put_discard(out, Discard::NoCell),
+            Took::Stale => put_discard(out, Discard::Stale),
+            Took::Unused => put_discard(out, Discard::Unused),
+            Took::Returned { signal } => {
+                self.tally.count_return(signal);
+                let reply = digest_of(packet.payload());
+                put_return(alloc, out, packet.header().call, signal, &reply)
+            }
+        }
+    }
+
+    /// One step of a worker.
+    fn work(&mut self, alloc: Global, worker: u8, out: &mut Vec<u8>) -> Result<(), AllocError>
+        requires worker { 1 ≤ worker }
+        requires few { load self.old < 2 ^ 62 }
+        ensures played { (r : Records) → Keeps self.old r → OnOk result (Plays out.old.items out.new.items self.new r
+            (step.work_event (world_with self.old r) worker (model.numbered 1 self.old.server.workers worker))) }
+        ensures load { OnOk result (load self.new ≤ load self.old + 1) }
+    {
+        match self.server.work(alloc, worker)? {
+            Worked::Impossible => put_impossible(out),
+            Worked::Rests => put_rest(alloc, out, worker),
+            Worked::Step { number, did } => put_work(alloc, out, worker, number, did),
+            Worked::Runs(line) => {
+                put_work(alloc, out, worker, line.call.number.value, Did::Runs)?;
+                self.tally.count_run();
+                self.runs.push(line)?;
+                Ok(())
+            }
+            Worked::Replies(packet) => {
+                put_work(
+                    alloc,
+                    out,
+                    worker,
+                    packet.header().call.number.value,
+                    Did::Replies,
+                )?;
+                self.send(alloc, packet, out)
+            }
+        }
+    }
+}
+
+/// The clients of a new world.
+fn boot_clients(alloc: Global) -> Result<Vec<ClientMachine>, AllocError>
+    ensures { IfOk result (λ clients. (small long : ℕ) → clients.items ≡ (model.first_world small long).clients) }
+{
+    let mut clients = Vec::new(alloc);
+    for place in 0..CLIENTS {
+        clients.push(ClientMachine::boot(alloc, FIRST_SECOND, FIRST_CLIENT + place)?)?;
+    }
+    Ok(clients)
+}
+
+ghost use Rattle.replay_world.specs.Client.{took_in};
+
+/// Hands a packet to the client that it goes to.
+fn hand_over(clients: &mut Vec<ClientMachine>, packet: &Sent) -> Took
+    ensures { (w : model.World) (k : ℕ) → step.client_takes (record w { clients = clients.old.items }) k packet.now
+        (model.numbered model.first_client clients.old.items packet.now.to) ≡ took_in (record w { clients = clients.new.items }) k packet.now result }
+{
+    if packet.to() < FIRST_CLIENT {
+        return Took::NoCell;
+    }
+    let place = usize::from(packet.to() - FIRST_CLIENT);
+    if place >= clients.len() {
+        return Took::NoCell;
+    }
+    let client = &mut clients[place];
+    client.take(packet)
+}
