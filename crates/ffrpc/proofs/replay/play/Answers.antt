@@ -1,7 +1,7 @@
 use Rattle.std.proofs.Common.{◌≡◌, ◌≤◌, ◌<◌, ◌+◌, ℕ, List, length, take, ap, subst, arith}
 use Rattle.std.proofs.lemmas.Result.{err_from_is_err_and}
 use Rattle.ff_io.specs.Told.{Appended}
-use Rattle.ffrpc.proofs.Playing.{Playing-event, Playing-flush, Playing-stop, Playing-fail}
+use Rattle.ffrpc.proofs.Playing.{Playing-event, Playing-flush, Playing-stop, Playing-fail, Playing-end}
 use Rattle.ffrpc.proofs.replay.play.Goals as goal
 
 pub returns-in_err-apply-clause-err : goal.returns-in_err-apply-clause-err
@@ -41,3 +41,10 @@ returns-in_err-write_all-clause-err g c =
       Playing-fail _ _ _ _ _ _ _ part.0 c.loop-event.invariant.playing
           (subst (λ x. Appended (take part.0 x) (g.K.Sink.written c.loop-event.sink) (g.K.Sink.written c.write_all.new.sink)) slice part.2),
     )
+
+pub returns-clause-ok : goal.returns-clause-ok
+returns-clause-ok g c =
+    let slice = c.as_slice.ensures.value in
+    let all : c.loop-event.event-index ≡ length c.args.script.now.events = omega (arith, ap length c.as_slice-event-items.ensures) in
+    Playing-end _ _ _ _ _ _ _ c.loop-event.invariant.playing all
+      (subst (λ x. Appended x (g.K.Sink.written c.loop-event.sink) (g.K.Sink.written c.write_all.new.sink)) slice c.in_ok-write_all.ensures.all)
