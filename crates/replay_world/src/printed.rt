@@ -13,7 +13,7 @@ ghost use Rattle.replay_world.specs.Discard.{discard_of};
 use crate::run_line::{RunLine, Tally};
 use crate::sent::Sent;
 use crate::worker::{Did, Unfit};
-use lane_checksum::{Digest, HEAD};
+use lane_checksum::{Digest, HEAD_LEN};
 use rpc_header::{CallId, Kind};
 use std::alloc::{AllocError, Global};
 
@@ -262,7 +262,7 @@ fn put_digest(alloc: Global, out: &mut Vec<u8>, digest: &Digest) -> Result<(), A
 {
     put_len(alloc, out, digest.len)?;
     let len = digest.len as usize;
-    if len <= HEAD {
+    if len <= HEAD_LEN {
         put_bytes(alloc, out, &digest.head[..len])
     } else {
         put_sum(alloc, out, digest.sum)
