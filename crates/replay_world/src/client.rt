@@ -12,6 +12,7 @@ use crate::service::{arguments_of, procedure_of};
 use caller_core::{Action, Caller};
 use replay_model::CallWord;
 use rpc_header::{Activity, CallNumber, Export, number};
+use script_text::{FIRST_CLIENT, LAST_CLIENT, LAST_PROCESS};
 use std::alloc::{AllocError, Global};
 use std::marker::Model;
 
@@ -24,11 +25,11 @@ const FIRST_BINDING: Export = Export {
 /// The machine that clients call.
 pub const SERVER_MACHINE: u8 = 1;
 
-/// How many processes a client has.
-pub const PROCESSES: u8 = 8;
+/// How many clients there are.
+pub const CLIENTS: u8 = LAST_CLIENT - FIRST_CLIENT + 1;
 
 /// The first call number of each second is the second times this.
-pub const NUMBERS_A_SECOND: u64 = 1 << 16;
+const NUMBERS_A_SECOND: u64 = 1 << 16;
 
 /// A process that makes calls.
 #[derive(Drop)]
@@ -243,7 +244,7 @@ fn boot_lines(alloc: Global, boot: u32, machine: u8) -> Result<Vec<ClientLine>, 
     ensures { IfOk result (λ lines. lines.items ≡ (model.booted_client boot machine).lines) }
 {
     let mut lines = Vec::new(alloc);
-    for cell in 0..PROCESSES {
+    for cell in 0..LAST_PROCESS {
         lines.push(ClientLine::boot(alloc, boot, machine, cell + 1))?;
     }
     Ok(lines)

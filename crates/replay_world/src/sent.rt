@@ -6,12 +6,9 @@ ghost use Rattle.call_rules.specs.Worker as rules;
 ghost use Rattle.replay_world.specs.Service.{answer_of};
 
 use crate::service::Answer;
-use rpc_header::{Header, Kind};
+use rpc_header::{Header, Kind, MAX_DATA};
 use std::alloc::{AllocError, Global};
 use std::marker::Model;
-
-/// The most data that one packet carries.
-pub const PIECE_BYTES: usize = 1440;
 
 /// A packet from one machine to another.
 #[derive(Drop)]
@@ -35,7 +32,7 @@ impl Model for Sent {
 
 impl Sent {
     pub fn new(from: u8, to: u8, header: Header, payload: Vec<u8>) -> Self
-        requires { length payload.items ≤ PIECE_BYTES }
+        requires { length payload.items ≤ MAX_DATA }
         ensures { result ≡ record { from = from; to = to; header = fields_of header; payload = payload.items } }
     {
         Sent {
@@ -68,7 +65,7 @@ impl Sent {
 
     pub fn payload(&self) -> &[u8]
         ensures data { result.now ≡ self.now.payload }
-        ensures short { length result.now ≤ PIECE_BYTES }
+        ensures short { length result.now ≤ MAX_DATA }
     {
         self.payload.as_slice()
     }
@@ -90,8 +87,8 @@ impl Sent {
         ensures { IfOk result (λ packet. packet ≡ rules.reply_packet self.now (answer_of answer.now)) }
     {
         let reply = answer.reply.as_slice();
-        let is_whole = reply.len() <= PIECE_BYTES;
-        let payload = Vec::from_slice(alloc, front(reply, PIECE_BYTES))?;
+        let is_whole = reply.len() <= MAX_DATA;
+        let payload = Vec::from_slice(alloc, front(reply, MAX_DATA))?;
         let header = Header {
             kind: reply_kind(answer.signal),
             please_ack: !is_whole,

@@ -9,13 +9,14 @@ ghost use Rattle.replay_model.specs.Step as step;
 ghost use Rattle.replay_world.specs.Entry.{word_of_word};
 ghost use Rattle.replay_world.specs.Unfit.{unfit_of};
 
-use crate::client::PROCESSES;
+use crate::client::CLIENTS;
 use crate::entry::{Entry, Word};
 use crate::run_line::RunLine;
 use crate::sent::Sent;
 use crate::service::{Answer, serve};
 use crate::worker::{Did, Unfit, Worker, WorkerState, unfit_for};
 use rpc_header::Activity;
+use script_text::{FIRST_CLIENT, LAST_CLIENT, LAST_PROCESS, LAST_WORKER};
 use std::alloc::{AllocError, Global};
 use std::collections::VecDeque;
 use std::marker::Model;
@@ -24,10 +25,6 @@ use std::marker::Model;
 const READY_CELLS: usize = 64;
 
 const EXPORT_ROWS: usize = 16;
-
-const ENTRIES: usize = 64;
-
-const WORKERS: usize = 4;
 
 /// An interface that the server exports.
 #[derive(Drop)]
@@ -336,7 +333,7 @@ fn boot_entries(alloc: Global) -> Result<Vec<Entry>, AllocError>
     ensures { IfOk result (λ entries. entries.items ≡ replicate 64 entry.Empty) }
 {
     let mut entries = Vec::new(alloc);
-    for _entry in 0..ENTRIES {
+    for _entry in 0..CLIENTS * LAST_PROCESS {
         entries.push(Entry::empty())?;
     }
     Ok(entries)
@@ -346,7 +343,7 @@ fn boot_workers(alloc: Global) -> Result<Vec<Worker>, AllocError>
     ensures { IfOk result (λ workers. workers.items ≡ replicate 4 rules.Resting) }
 {
     let mut workers = Vec::new(alloc);
-    for _worker in 0..WORKERS {
+    for _worker in 0..LAST_WORKER {
         workers.push(Worker::new(WorkerState::Idle))?;
     }
     Ok(workers)
@@ -357,8 +354,10 @@ fn entry_place(activity: Activity) -> Option<usize>
     ensures { result ≡ (if model.is_entry_activity activity then Some (model.entry_place activity) else None) }
 {
     let Activity { machine, process } = activity;
-    if (2..=9).contains(&machine) && (1..=u16::from(PROCESSES)).contains(&process) {
-        Some(8 * (machine as usize - 2) + (usize::from(process) - 1))
+    let is_client = u32::from(FIRST_CLIENT) <= machine && machine <= u32::from(LAST_CLIENT);
+    if is_client && 1 <= process && process <= u16::from(LAST_PROCESS) {
+        let client = (machine - u32::from(FIRST_CLIENT)) as usize;
+        Some(usize::from(LAST_PROCESS) * client + usize::from(process - 1))
     } else {
         None
     }

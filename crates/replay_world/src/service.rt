@@ -5,6 +5,7 @@ ghost use Rattle.replay_model.specs.Service as rules;
 ghost use Rattle.replay_world.specs.Service.{served_of};
 
 use replay_model::CallWord;
+use rpc_header::MAX_DATA;
 use std::alloc::{AllocError, Global};
 
 /// What a body answers.
@@ -36,7 +37,7 @@ pub fn procedure_of(word: CallWord) -> u16
 /// The marshalled arguments of a call.
 pub fn arguments_of(alloc: Global, word: CallWord) -> Result<Vec<u8>, AllocError>
     ensures bytes { IfOk result (λ bytes. bytes.items ≡ rules.arguments_of word) }
-    ensures short { IfOk result (λ bytes. length bytes.items ≤ 1440) }
+    ensures short { IfOk result (λ bytes. length bytes.items ≤ MAX_DATA) }
 {
     match word {
         CallWord::Null => Ok(Vec::new(alloc)),

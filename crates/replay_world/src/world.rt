@@ -13,7 +13,7 @@ ghost use Rattle.replay_world.specs.Stored.{load};
 ghost use Rattle.replay_world.specs.Stands.{Stands};
 ghost use Rattle.replay_world.specs.Played.{world_with, Keeps, Plays};
 
-use crate::client::{Called, ClientMachine, SERVER_MACHINE, Took};
+use crate::client::{CLIENTS, Called, ClientMachine, SERVER_MACHINE, Took};
 use crate::printed::{
     Discard, put_discard, put_end, put_impossible, put_packet, put_ready, put_rest, put_return,
     put_runs, put_start, put_too_fast, put_work,
@@ -24,12 +24,9 @@ use crate::server::{ServerMachine, Worked};
 use crate::worker::Did;
 use lane_checksum::digest_of;
 use replay_model::{CallWord, Event};
+use script_text::FIRST_CLIENT;
 use std::alloc::{AllocError, Global};
 use std::marker::Model;
-
-const FIRST_CLIENT: u8 = 2;
-
-const CLIENTS: u8 = 8;
 
 /// The second in which all machines boot.
 const FIRST_SECOND: u32 = 1;
@@ -171,8 +168,8 @@ impl World {
             → OnOk result (Plays out.old.items out.new.items self.new r (step.server_takes (world_with self.old r) number p)) }
         ensures load { OnOk result (load self.new ≤ load self.old) }
     {
-        let packet = &self.bag[number as usize - 1];
-        if self.server.take(alloc, packet)? {
+        let arrived = &self.bag[number as usize - 1];
+        if self.server.take(alloc, arrived)? {
             return put_ready(alloc, out, number);
         }
         put_discard(out, Discard::NoRoom)

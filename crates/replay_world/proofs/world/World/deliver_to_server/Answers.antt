@@ -21,9 +21,9 @@ returns-then-branch-clause-played c r p k is =
     let is' : packet_at s.bag c.args.number ≡ Some p = subst (λ (x : Stored). packet_at x.bag c.args.number ≡ Some p) (sym c.self.view_is) is in
     let before : List ℕ = c.args.out.now.items in
     let after : List ℕ = c.put_ready.new.out.items in
-    let packet : Packet = c.index-packet.result.now in
+    let packet : Packet = c.index-arrived.result.now in
     let there : c.args.number ≤ length s.bag = subst (λ (x : Stored). c.args.number ≤ length x.bag) (sym c.self.view_is) c.requires.is_there in
-    let some = numbered-some 1 s.bag c.args.number packet (omega arith) (omega arith) c.index-packet.ensures in
+    let some = numbered-some 1 s.bag c.args.number packet (omega arith) (omega arith) c.index-arrived.ensures in
     let ready : Packet → Server = λ q. record s.server { ready = s.server.ready ++ q ∷ [] } in
     let new : c.take.new.self ≡ ready p = c.in_ok-take.ensures.ready ∙ (cond-true _ _ _ c.if-branch.true ∙ ap ready (same_item _ packet p some is')) in
     rw (← c.self.view_is)
