@@ -47,4 +47,4 @@ returns-clause-ok g c =
     let slice = c.as_slice.ensures.value in
     let all : c.loop-event.event-index ≡ length c.args.script.now.events = omega (arith, ap length c.as_slice-event-items.ensures) in
     Playing-end _ _ _ _ _ _ _ c.loop-event.invariant.playing all
-      (subst (λ x. Appended x (g.K.Sink.written c.loop-event.sink) (g.K.Sink.written c.write_all.new.sink)) slice c.in_ok-write_all.ensures.all)
+    (subst (λ x. Appended x (g.K.Sink.written c.loop-event.sink) (g.K.Sink.written c.write_all.new.sink)) slice c.in_ok-write_all.ensures.all)
