@@ -1,12 +1,12 @@
 #!/bin/sh
 # Prints the time that a script line takes, for scripts of about 2,000, 6,000 and 18,000 lines, and its ratio to that
 # of the smallest: the cost of a script should grow linearly with its lines. In these scripts the 64 activities have
-# calls open at once, again and again. Each is played several times, and the best run counts; what the program takes
-# to start is measured by the shortest script and left out. It is run by hand and is no part of the gate: the times
-# are the machine's, and a busy machine's are worth little.
+# calls open at once, again and again. Each is played many times, the processor's time is taken, and the best run
+# counts; what the program takes to start is measured by the shortest script and left out. It is run by hand and is
+# no part of the gate: a busy machine's times are worth little.
 set -eu
 cd "$(dirname "$0")/.."
-runs=${1:-15}
+runs=${1:-200}
 work=$(mktemp -d)
 trap 'rm -rf "$work"' EXIT
 
@@ -38,15 +38,17 @@ for calls in 285 857 2571; do
 done
 
 python3 - "$runs" "$work" 0 285 857 2571 <<'PYTHON'
-import subprocess, sys, time
+import os, subprocess, sys
 
 runs, work, names = int(sys.argv[1]), sys.argv[2], sys.argv[3:]
 
 def once(name):
     with open(f"{work}/{name}.script") as script:
-        start = time.perf_counter()
-        subprocess.run(["crates/ffrpc/out/ffrpc", "replay"], stdin=script, stdout=subprocess.DEVNULL, check=True)
-        return time.perf_counter() - start
+        program = subprocess.Popen(["crates/ffrpc/out/ffrpc", "replay"], stdin=script, stdout=subprocess.DEVNULL)
+        _, status, usage = os.wait4(program.pid, 0)
+        assert status == 0
+        program.returncode = 0
+        return usage.ru_utime + usage.ru_stime
 
 best = {name: min(once(name) for _ in range(runs)) for name in names}
 least = None
