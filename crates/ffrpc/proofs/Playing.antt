@@ -1,0 +1,150 @@
+-- A script that is being played: how far, what is kept and what was written.
+use Rattle.std.proofs.Common.{◌≡◌, ◌⊎◌, ℕ, zero, suc, ◌+◌, ◌*◌, ◌≤◌, ◌<◌, List, [], ◌∷◌, ◌++◌, length, take, drop, get_or, Option, refl, sym, ap, subst, ◌∙◌, inl, inr, append_assoc, append-nil, arith, add-one, zero-add}
+use Rattle.std.proofs.Math.Nat.{suc-add}
+use Rattle.std.proofs.Math.Seq.{take-length, take-suc}
+use Rattle.std.proofs.lemmas.List.{take-append-le, take-append-drop}
+use Rattle.ff_io.specs.Told.{Appended}
+use Rattle.ff_io.proofs.ToldLemmas.{Appended-none, Appended-append}
+use Rattle.replay_model.specs.declared.event.Event.{Event}
+use Rattle.replay_model.specs.World as model
+use Rattle.replay_model.specs.Script.{Script}
+use Rattle.replay_model.specs.Step.{step, outcome, run}
+use Rattle.replay_model.specs.Transcript.{transcript, lines, lines_from}
+use Rattle.replay_world.specs.Stands.{Stands}
+use Rattle.replay_world.specs.Stored.{Stored, load}
+use Rattle.ffrpc.specs.Replay.{EndsLine, world_of}
+use Rattle.ffrpc.specs.Steps.{Flushed, PartOf, WroteLines, WroteFront}
+use Rattle.ffrpc.proofs.LineEnds.{EndsLine-append, acts_end}
+
+-- the first index events were played
+pub record Playing (s : Script) (index : ℕ) (world : Stored) (out : List ℕ) (old new : Option (List ℕ)) : Type 0 where
+  pub stands : Stands world (run (world_of s) (take index s.events))
+  -- what was written, and what is kept, are whole lines
+  pub shown : List ℕ
+  pub shown_ends : EndsLine shown
+  pub out_ends : EndsLine out
+  pub written : Appended shown old new
+  pub printed : lines_from (world_of s) (take index s.events) ≡ shown ++ out
+  pub small : load world ≤ 1000 * index
+
+pub Playing-start : (s : Script) (world : Stored) (x : Option (List ℕ)) → Stands world (model.first_world s.small s.long)
+    → load world ≡ 0 → Playing s 0 world [] x x
+Playing-start s world x stands empty = record {
+  stands = stands;
+  shown = [];
+  shown_ends = inl refl;
+  out_ends = inl refl;
+  written = Appended-none x;
+  printed = refl;
+  small = omega (arith, empty);
+}
+
+-- the events so far, and one more
+run-push : (w : model.World) (events : List Event) (e : Event) → run w (events ++ e ∷ []) ≡ step (run w events) e
+run-push w [] e = refl
+run-push w (x ∷ events) e = run-push (step w x) events e
+
+lines_from-append : (w : model.World) (these those : List Event) → lines_from w (these ++ those) ≡ lines_from w these ++ lines_from (run w these) those
+lines_from-append w [] those = refl
+lines_from-append w (x ∷ these) those =
+    ap (λ more. lines w x ++ more) (lines_from-append (step w x) these those)
+    ∙ sym (append_assoc (lines w x) (lines_from (step w x) these) (lines_from (run (step w x) these) those))
+
+lines_end : (w : model.World) (e : Event) → EndsLine (lines w e)
+unfolding lines
+lines_end w e = acts_end (outcome w e).acts
+
+pub Playing-event : (s : Script) (i : ℕ) (world world' : Stored) (events : List Event) (d : Event) (out out' : List ℕ) (old new : Option (List ℕ))
+    → Playing s i world out old new → i < length s.events → events ≡ s.events
+    → out' ≡ out ++ lines (run (world_of s) (take i s.events)) (get_or events i d)
+    → Stands world' (step (run (world_of s) (take i s.events)) (get_or events i d)) → load world' ≤ load world + 1000
+    → Playing s (i + 1) world' out' old new
+Playing-event s i world world' events d out out' old new p below same printed stands small =
+    let e : Event = get_or events i d in
+    let at : model.World = run (world_of s) (take i s.events) in
+    let one : e ∷ [] ≡ get_or s.events i d ∷ [] = ap (λ xs. get_or xs i d ∷ []) same in
+    let next : take (i + 1) s.events ≡ take i s.events ++ e ∷ [] =
+    rw add-one (take-suc s.events i d below ∙ ap (λ x. take i s.events ++ x) (sym one)) in
+    let reached : run (world_of s) (take (i + 1) s.events) ≡ step at e =
+    ap (run (world_of s)) next ∙ run-push (world_of s) (take i s.events) e in
+    record {
+      stands = subst (Stands world') (sym reached) stands;
+      shown = p.shown;
+      shown_ends = p.shown_ends;
+      out_ends = subst EndsLine (sym printed) (EndsLine-append out (lines at e) p.out_ends (lines_end at e));
+      written = p.written;
+      printed =
+          ap (lines_from (world_of s)) next ∙ lines_from-append (world_of s) (take i s.events) (e ∷ [])
+          ∙ ap (λ x. x ++ (lines at e ++ [])) p.printed
+          ∙ ap (λ x. (p.shown ++ out) ++ x) (append-nil (lines at e))
+          ∙ append_assoc p.shown out (lines at e)
+          ∙ ap (λ x. p.shown ++ x) (sym printed);
+      small = omega (arith, p.small, small);
+    }
+
+-- the front that was written ends a line, and so does what is kept
+front_ends : (out front after : List ℕ) → EndsLine out → out ≡ front ++ after → (front ≡ []) ⊎ (after ≡ []) → EndsLine front × EndsLine after
+front_ends out front after ends parts (inl none) = (inl none, subst EndsLine (parts ∙ ap (λ x. x ++ after) none) ends)
+front_ends out front after ends parts (inr none) =
+    (subst EndsLine (parts ∙ ap (λ x. front ++ x) none ∙ append-nil front) ends, inl none)
+
+pub Playing-flush : (s : Script) (i : ℕ) (world : Stored) (out out' : List ℕ) (old mid new : Option (List ℕ))
+    → Playing s i world out old mid → Flushed out out' mid new → Playing s i world out' old new
+Playing-flush s i world out out' old mid new p f =
+    let ends : EndsLine f.front × EndsLine out' = front_ends out f.front out' p.out_ends f.parts f.none_or_all in
+    record {
+      stands = p.stands;
+      shown = p.shown ++ f.front;
+      shown_ends = EndsLine-append p.shown f.front p.shown_ends ends.0;
+      out_ends = ends.1;
+      written = Appended-append p.shown f.front old mid new p.written f.written;
+      printed = p.printed ∙ ap (λ x. p.shown ++ x) f.parts ∙ sym (append_assoc p.shown f.front out');
+      small = p.small;
+    }
+
+-- the lines of the events so far, cut in two
+part_of : (s : Script) (i : ℕ) (shown more : List ℕ) → lines_from (world_of s) (take i s.events) ≡ shown ++ more → PartOf s shown
+part_of s i shown more printed =
+    let played : List Event = take i s.events in
+    let later : List Event = drop i s.events in
+    let parts : s.events ≡ played ++ later = sym (take-append-drop i s.events) in
+    let behind : List ℕ = lines_from (run (world_of s) played) later in
+    record {
+      played = played;
+      later = later;
+      parts = parts;
+      more = more;
+      printed = printed;
+      rest = more ++ behind;
+      front = ap (lines_from (world_of s)) parts ∙ lines_from-append (world_of s) played later ∙ ap (λ x. x ++ behind) printed
+          ∙ append_assoc shown more behind;
+    }
+
+-- memory ran out
+pub Playing-stop : (s : Script) (i : ℕ) (world : Stored) (out : List ℕ) (old new : Option (List ℕ)) → Playing s i world out old new → WroteLines s old new
+Playing-stop s i world out old new p =
+    record { shown = p.shown; whole_lines = p.shown_ends; of_script = part_of s i p.shown out p.printed; written = p.written }
+
+pub take-over : (these those : List ℕ) (n : ℕ) → take (length these + n) (these ++ those) ≡ these ++ take n those
+take-over [] those n = simp zero-add
+take-over (x ∷ these) those n = simp suc-add (ap (λ xs. x ∷ xs) (take-over these those n))
+
+-- a write failed
+pub Playing-fail : (s : Script) (i : ℕ) (world : Stored) (out : List ℕ) (old mid new : Option (List ℕ)) (n : ℕ)
+    → Playing s i world out old mid → Appended (take n out) mid new → WroteFront s old new
+Playing-fail s i world out old mid new n p part =
+    let cut : p.shown ++ out ≡ (p.shown ++ take n out) ++ drop n out =
+    ap (λ x. p.shown ++ x) (sym (take-append-drop n out)) ∙ sym (append_assoc p.shown (take n out) (drop n out)) in
+    record {
+      shown = p.shown ++ take n out;
+      of_script = part_of s i (p.shown ++ take n out) (drop n out) (p.printed ∙ cut);
+      written = Appended-append p.shown (take n out) old mid new p.written part;
+    }
+
+-- all was played
+pub Playing-end : (s : Script) (i : ℕ) (world : Stored) (out : List ℕ) (old mid new : Option (List ℕ))
+    → Playing s i world out old mid → i ≡ length s.events → Appended out mid new → Appended (transcript s) old new
+Playing-end s i world out old mid new p all rest =
+    let whole : take i s.events ≡ s.events = ap (λ n. take n s.events) all ∙ take-length s.events in
+    subst (λ x. Appended x old new) (sym (ap (lines_from (world_of s)) (sym whole) ∙ p.printed))
+    (Appended-append p.shown out old mid new p.written rest)

@@ -1,0 +1,73 @@
+//! How the program ends.
+
+ghost use Rattle.std.specs.Prelude.{◌≡◌};
+
+use ff_io::WriteFailed;
+use std::alloc::AllocError;
+
+/// How a command ends. Each status has its number, and all but two a line that is written last.
+#[derive(Clone, Copy, PartialEq, Eq, Debug)]
+pub enum Status {
+    /// All input was read, and all output was written.
+    Ok,
+    /// The words are no command.
+    Usage,
+    /// The input has its first fault in this line, of this number.
+    BadText(u32, u8),
+    /// A read failed.
+    ReadFault,
+    /// A write failed.
+    WriteFault,
+    /// The network failed.
+    LinkFault,
+    /// A call of `call` failed.
+    CallsFailed,
+    /// The input is longer than the limit.
+    TooLong,
+    /// The clock failed.
+    ClockFault,
+    /// Memory ran out.
+    NoMemory,
+}
+
+impl Status {
+    ghost use Rattle.ffrpc.specs.Status.{number_of};
+
+    /// The number that the program ends with.
+    pub fn number(self) -> u8
+        ensures { result ≡ number_of self }
+    {
+        match self {
+            Status::Ok => 0,
+            Status::Usage => 2,
+            Status::BadText(_, _) => 3,
+            Status::ReadFault => 4,
+            Status::WriteFault => 5,
+            Status::LinkFault => 6,
+            Status::CallsFailed => 7,
+            Status::TooLong => 8,
+            Status::ClockFault => 9,
+            Status::NoMemory => 10,
+        }
+    }
+}
+
+impl From<AllocError> for Status {
+    ghost use Rattle.ffrpc.specs.declared.status.Status.TheVariants.{NoMemory};
+
+    ghost from_gives = { λ _ s. s ≡ NoMemory };
+
+    fn from(_: AllocError) -> Self {
+        Status::NoMemory
+    }
+}
+
+impl From<WriteFailed> for Status {
+    ghost use Rattle.ffrpc.specs.declared.status.Status.TheVariants.{WriteFault};
+
+    ghost from_gives = { λ _ s. s ≡ WriteFault };
+
+    fn from(_: WriteFailed) -> Self {
+        Status::WriteFault
+    }
+}

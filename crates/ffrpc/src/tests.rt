@@ -1,0 +1,163 @@
+//! The program over sources and sinks in memory.
+
+ghost use Rattle.std.specs.Prelude.{◌≤◌};
+
+use crate::command::ffrpc;
+use crate::status::Status;
+use ff_io::{MemorySink, MemorySource, Short};
+use std::alloc::{AllocError, Global};
+use std::test::Fail;
+
+const EMPTY_CALL: &[u8] =
+    b"call 2 1 null\ndeliver 1\nwork 1\nwork 1\nwork 1\nwork 1\ndeliver 2\njournal\nend\n";
+
+const EMPTY_CALL_TRANSCRIPT: &[u8] =
+    b"start 2.1 65536\npacket 1 2>1 call 65536/0 -l 0\nready 1\nworker 1 claims 65536\nworker 1 admits 65536\nworker 1 runs 65536\nworker 1 replies 65536\npacket 2 1>2 result 65536/0 -l 0\nreturned 2.1 65536 0:\nrun 1 2.1 65536 null 0: -> 0:\nend runs 1 returned 1 signalled 0 failed 0 refused 0\n";
+
+/// The outside of a run: the input, which reads and writes fail, and the most bytes of one.
+#[derive(Clone, Copy)]
+struct Given<'a> {
+    input: &'a [u8],
+    failing_reads: &'a [u64],
+    failing_writes: &'a [u64],
+    most: usize,
+}
+
+/// A run whose outside never fails.
+fn never_failing(input: &[u8]) -> Given<'_> {
+    Given {
+        input,
+        failing_reads: &[],
+        failing_writes: &[],
+        most: 65_536,
+    }
+}
+
+/// The status of a run, and what it has written.
+fn ran(alloc: Global, words: &[&str], outside: &Given) -> Result<(Status, Vec<u8>), AllocError> {
+    let most = outside.most.max(1);
+    let mut all_words = Vec::new(alloc);
+    for word in words {
+        all_words.push(String::from_str(alloc, word)?)?;
+    }
+    let input = Vec::from_slice(alloc, outside.input)?;
+    let failing_reads = Vec::from_slice(alloc, outside.failing_reads)?;
+    let failing_writes = Vec::from_slice(alloc, outside.failing_writes)?;
+    let mut source = Short {
+        inner: MemorySource::new(input, failing_reads),
+        most,
+    };
+    let mut sink = Short {
+        inner: MemorySink::new(failing_writes, Vec::new(alloc)),
+        most,
+    };
+    let status = ffrpc(alloc, &all_words, &mut source, &mut sink);
+    let written = Vec::from_slice(alloc, sink.inner.written())?;
+    Ok((status, written))
+}
+
+#[test]
+fn an_empty_call_is_played(rt: HostRuntime) -> Result<(), Fail> {
+    let (status, written) = ran(rt.alloc(), &["replay"], &never_failing(EMPTY_CALL))?;
+    assert_eq!(rt; status, Status::Ok);
+    assert_eq!(rt; written.as_slice(), EMPTY_CALL_TRANSCRIPT);
+    Ok(())
+}
+
+#[test]
+fn short_reads_and_writes_change_nothing(rt: HostRuntime) -> Result<(), Fail> {
+    let mut short = never_failing(EMPTY_CALL);
+    short.most = 7;
+    let (status, written) = ran(rt.alloc(), &["replay"], &short)?;
+    assert_eq!(rt; status, Status::Ok);
+    assert_eq!(rt; written.as_slice(), EMPTY_CALL_TRANSCRIPT);
+    Ok(())
+}
+
+#[test]
+fn a_source_that_fails_is_told(rt: HostRuntime) -> Result<(), Fail> {
+    let mut failing = never_failing(EMPTY_CALL);
+    failing.failing_reads = &[1];
+    let (status, written) = ran(rt.alloc(), &["replay"], &failing)?;
+    assert_eq!(rt; status.number(), 4);
+    assert_eq!(rt; written.as_slice(), b"fault ReadFault\n".as_slice());
+    Ok(())
+}
+
+#[test]
+fn a_sink_that_fails_at_once_takes_nothing(rt: HostRuntime) -> Result<(), Fail> {
+    let mut failing = never_failing(EMPTY_CALL);
+    failing.failing_writes = &[1];
+    let (status, written) = ran(rt.alloc(), &["replay"], &failing)?;
+    assert_eq!(rt; status.number(), 5);
+    assert_eq!(rt; written.len(), 0);
+    Ok(())
+}
+
+#[test]
+fn a_sink_that_fails_in_mid_stream_has_a_prefix(rt: HostRuntime) -> Result<(), Fail> {
+    let mut failing = never_failing(EMPTY_CALL);
+    failing.failing_writes = &[3];
+    failing.most = 20;
+    let (status, written) = ran(rt.alloc(), &["replay"], &failing)?;
+    assert_eq!(rt; status.number(), 5);
+    assert_eq!(rt;
+        written.as_slice(),
+        b"start 2.1 65536\npacket 1 2>1 call 65536/".as_slice()
+    );
+    Ok(())
+}
+
+#[test]
+fn one_byte_above_the_limit_is_too_long(rt: HostRuntime) -> Result<(), Fail> {
+    let input = vec![in rt.alloc(); b'\n'; 1_048_577]?;
+    let (status, written) = ran(rt.alloc(), &["replay"], &never_failing(&input))?;
+    assert_eq!(rt; status.number(), 8);
+    assert_eq!(rt; written.as_slice(), b"fault TooLong\n".as_slice());
+    let (status, written) = ran(rt.alloc(), &["replay"], &never_failing(&input[1..]))?;
+    assert_eq!(rt; status.number(), 3);
+    assert_eq!(rt; written.as_slice(), b"fault BadText 1 9\n".as_slice());
+    Ok(())
+}
+
+#[test]
+fn other_words_are_refused(rt: HostRuntime) -> Result<(), Fail> {
+    let table: [&[&str]; 4] = [&[], &["replay", "replay"], &["play"], &["replay "]];
+    for words in table {
+        let (status, written) = ran(rt.alloc(), words, &never_failing(EMPTY_CALL))?;
+        assert_eq!(rt; status.number(), 2);
+        assert_eq!(rt; written.as_slice(), b"fault Usage\n".as_slice());
+    }
+    Ok(())
+}
+
+#[test]
+fn texts_outside_the_grammar_are_refused(rt: HostRuntime) -> Result<(), Fail> {
+    let table: [&[u8]; 8] = [
+        b"",
+        b"journal\n",
+        b"jurnal\nend\n",
+        b"deliver 01\nend\n",
+        b"end\njournal\n",
+        b"deliver 1\ndeliver 1\nend\n",
+        b"\nend\n",
+        b"call 2 9 null\nend\n",
+    ];
+    for text in table {
+        let (status, written) = ran(rt.alloc(), &["replay"], &never_failing(text))?;
+        assert_eq!(rt; status, Status::BadText(1, 9));
+        assert_eq!(rt; written.as_slice(), b"fault BadText 1 9\n".as_slice());
+    }
+    Ok(())
+}
+
+#[test]
+fn an_end_alone_is_a_script(rt: HostRuntime) -> Result<(), Fail> {
+    let (status, written) = ran(rt.alloc(), &["replay"], &never_failing(b"end"))?;
+    assert_eq!(rt; status, Status::Ok);
+    assert_eq!(rt;
+        written.as_slice(),
+        b"end runs 0 returned 0 signalled 0 failed 0 refused 0\n".as_slice()
+    );
+    Ok(())
+}
