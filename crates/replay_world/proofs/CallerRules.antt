@@ -1,13 +1,10 @@
 -- What a packet leaves of a caller.
-use Rattle.std.proofs.Common.{◌≡◌, ℕ, Bool, true, false, cond, refl, sym, ◌∙◌, ap}
+use Rattle.std.proofs.Common.{◌≡◌, Bool, true, false, cond, refl}
 use Rattle.std.specs.Prelude.{◌==◌, ◌&&◌}
 use Rattle.rpc_header.specs.declared.Kind.{Kind}
 use Rattle.rpc_header.specs.declared.Kind.TheVariants as kind
 use Rattle.call_rules.specs.Packet.{Fields, is_same_call}
-use Rattle.call_rules.specs.Caller.{Caller, State, Step, Act, Last, Unused, Idle, Sending, row, unused, current_call, on_own_packet, on_packet}
-use Rattle.caller_core.specs.declared.action.Action.{Action}
-use Rattle.caller_core.specs.declared.action.Action.TheVariants as action
-use Rattle.caller_core.specs.Action.{act_of}
+use Rattle.call_rules.specs.Caller.{Caller, State, Step, Last, Unused, Idle, Sending, row, unused, current_call, on_own_packet, on_packet}
 
 -- a packet is unused, or it is the last of a reply
 pub record UnusedOrLast (c : Caller) (s : Step) : Type 0 where

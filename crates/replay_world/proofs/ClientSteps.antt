@@ -1,9 +1,9 @@
 -- What a process does about a packet, as outcomes of the model.
-use Rattle.std.proofs.Common.{◌≡◌, ℕ, ◌+◌, ◌≤◌, ◌<◌, [], ◌∷◌, length, Option, Some, None, Bool, true, false, cond, ap, sym, ◌∙◌, refl}
+use Rattle.std.proofs.Common.{◌≡◌, ℕ, ◌+◌, ◌≤◌, ◌<◌, [], ◌∷◌, length, Option, Some, None, Bool, true, false, ap, sym, ◌∙◌, refl}
 use Rattle.std.specs.Prelude.{◌==◌}
 use Rattle.std.proofs.lemmas.Bool.{cond-true, cond-false, eq-eqb, le-leb, lt-leb}
 use Rattle.call_rules.specs.Packet.{Packet}
-use Rattle.call_rules.specs.Caller.{Caller, Act, Last, is_idle, on_packet}
+use Rattle.call_rules.specs.Caller.{Caller, is_idle, on_packet}
 use Rattle.replay_model.specs.Record.{Stale, Unused, NoCell, Starts, Sends}
 use Rattle.replay_model.specs.World.{World, Client, Line, numbered, number_limit}
 use Rattle.replay_model.specs.Step.{Outcome, discarded, heard, line_takes, client_takes, with_line, with_client, with_packet, call_by, call_packet, started_caller, starts, too_fast, impossible}

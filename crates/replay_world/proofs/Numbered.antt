@@ -1,9 +1,9 @@
 -- Items of lists by their numbers, and entries by their activities.
-use Rattle.std.proofs.Common.{◌≡◌, ℕ, ◌+◌, ◌-◌, ◌≤◌, ◌<◌, List, length, Option, Some, None, get_or, set, cond, Bool, true, false, ap, sym, ◌∙◌, arith, refl}
+use Rattle.std.proofs.Common.{◌≡◌, ℕ, ◌-◌, ◌≤◌, ◌<◌, List, length, Option, Some, None, get_or, set, cond, Bool, true, false, ap, sym, ◌∙◌, refl}
 use Rattle.std.specs.Prelude.{unwrap_or, slice_get}
-use Rattle.std.proofs.lemmas.List.{set-get_or, set_past}
+use Rattle.std.proofs.lemmas.List.{set-get_or}
 use Rattle.std.proofs.lemmas.Bool.{le-ltb, lt-ltb, cond-true, cond-false}
-use Rattle.std.proofs.lemmas.Option.{slice_get_past, slice_get-get_or, slice_get_within, get_or_from_slice_get, unwrap_or-slice_get}
+use Rattle.std.proofs.lemmas.Option.{slice_get_past, slice_get-get_or, unwrap_or-slice_get}
 use Rattle.rpc_header.specs.declared.Activity.{Activity}
 use Rattle.call_rules.specs.Entry.{Entry, Empty}
 use Rattle.replay_model.specs.World.{numbered, is_entry_activity, entry_place, entry_at, with_entry}

@@ -1,24 +1,20 @@
 -- That an outcome was played: its lines, and the records that are kept of it.
-use Rattle.std.proofs.Common.{◌≡◌, ℕ, ◌+◌, ◌*◌, ◌≤◌, ◌<◌, List, [], ◌∷◌, ◌++◌, map, length, take, replicate, cond, Bool, true, false, Result, Ok, Err, ap, sym, subst, ◌∙◌, refl, arith, add-zero}
-use Rattle.std.specs.Prelude.{OnOk, ◌==◌, not, filter, slice_index}
-use Rattle.std.specs.Fmt.{decimal}
-use Rattle.std.proofs.lemmas.List.{append-nil, length_push, map-append, take-take, take_all}
-use Rattle.std.proofs.Math.Seq.{take-append_seam}
+use Rattle.std.proofs.Common.{◌≡◌, ℕ, ◌+◌, List, [], ◌∷◌, ◌++◌, map, length, cond, Bool, true, false, Result, Ok, Err, ap, sym, subst, ◌∙◌, refl}
+use Rattle.std.specs.Prelude.{OnOk, ◌==◌, not, filter}
+use Rattle.std.proofs.lemmas.List.{append-nil, length_push, map-append}
 use Rattle.std.proofs.lemmas.List.Elements.{filter-append}
 use Rattle.std.proofs.lemmas.Result.{on_ok_weaker}
-use Rattle.std.proofs.lemmas.Bool.{cond-true, cond-false, le-leb, lt-leb}
+use Rattle.std.proofs.lemmas.Bool.{cond-true, cond-false}
 use Rattle.rpc_header.specs.declared.Activity.{Activity}
-use Rattle.lane_checksum.specs.PlainSum.{csum}
 use Rattle.call_rules.specs.Packet.{Call, Packet}
 use Rattle.call_rules.specs.Worker.{Run}
-use Rattle.replay_model.specs.Record.{Act, Records, Counts, Start, Return, Starts, Sends, Hears, HasRun, Returns, counts_of, recorded, recorded_all, with_mark, SentPacket, server_machine}
+use Rattle.replay_model.specs.Record.{Act, Records, Counts, Start, Return, Starts, Sends, Hears, HasRun, Returns, counts_of, recorded, with_mark, SentPacket, server_machine}
 use Rattle.replay_model.specs.World.{World}
 use Rattle.replay_model.specs.declared.event.Event.{Event}
 use Rattle.replay_model.specs.Step.{Outcome, outcome, step}
 use Rattle.replay_model.specs.Transcript.{lines}
-use Rattle.replay_model.specs.Lines.{lines_of, lines_of_act, bytes_text, exception_number, hex, run_line, run_lines, journal_lines, return_line}
-use Rattle.replay_world.specs.Digests.{RunDigest, digest, run_digest, counts_run, counts_return}
-use Rattle.replay_world.specs.Printed.{digest_text, digest_exception, run_digest_line, run_digest_lines, journal_digest_lines, return_digest_line}
+use Rattle.replay_model.specs.Lines.{lines_of_act}
+use Rattle.replay_world.specs.Digests.{RunDigest, run_digest, counts_run, counts_return}
 use Rattle.replay_world.specs.Stored.{Stored, stored_of}
 use Rattle.replay_world.specs.Stands.{Stands}
 use Rattle.replay_world.specs.Played.{world_with, Keeps, Plays}

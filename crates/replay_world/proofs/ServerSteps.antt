@@ -1,14 +1,13 @@
 -- The steps of workers.
-use Rattle.std.proofs.Common.{◌≡◌, ℕ, ◌+◌, ◌-◌, ◌≤◌, ◌<◌, List, [], ◌∷◌, length, Option, Some, None, get_or, set, cond, Bool, true, false, ap, sym, subst, ◌∙◌, refl}
-use Rattle.std.specs.Prelude.{unwrap_or}
+use Rattle.std.proofs.Common.{◌≡◌, ℕ, ◌+◌, ◌-◌, List, [], ◌∷◌, length, Option, Some, None, set, false, ap, sym, subst, ◌∙◌, refl}
 use Rattle.std.proofs.lemmas.List.{set-set}
-use Rattle.std.proofs.lemmas.Bool.{cond-true, cond-false}
+use Rattle.std.proofs.lemmas.Bool.{cond-false}
 use Rattle.rpc_header.specs.declared.Activity.{Activity}
 use Rattle.call_rules.specs.Packet.{Packet}
 use Rattle.call_rules.specs.Entry.{Entry, Word, Empty, Judged, Admit, word_of, is_same_word, judge}
 use Rattle.call_rules.specs.Worker.{Step, Unfit, Answer, drops, on_idle, on_judged, on_claimed, on_ran, run_of, reply_packet, Resting, Claims, Drops, Full, Lost}
 use Rattle.call_rules.specs.Worker as rules
-use Rattle.replay_model.specs.World.{World, Server, numbered, entry_at, with_entry}
+use Rattle.replay_model.specs.World.{World, Server, entry_at, with_entry}
 use Rattle.replay_model.specs.Record.{Works, HasRun, Sends}
 use Rattle.replay_model.specs.Service.{Served, served}
 use Rattle.replay_model.specs.Step.{Outcome, impossible, with_packet, sent, works, runs_body, claims, claims_next, work_event}

@@ -1,12 +1,12 @@
 -- The events of the model by the parts of its world.
-use Rattle.std.proofs.Common.{◌≡◌, ℕ, ◌+◌, ◌-◌, List, [], ◌∷◌, ◌++◌, length, Option, Some, None, Bool, true, false, cond, get_or, set, ap, sym, subst, ◌∙◌, refl}
+use Rattle.std.proofs.Common.{◌≡◌, ℕ, ◌-◌, List, [], ◌∷◌, ◌++◌, length, Option, Some, None, true, false, get_or, set, ap, sym, ◌∙◌}
 use Rattle.std.specs.Prelude.{◌==◌, nat_lt}
 use Rattle.std.proofs.lemmas.Bool.{cond-true, cond-false}
 use Rattle.call_rules.specs.Packet.{Packet}
 use Rattle.replay_model.specs.declared.event.CallWord.{CallWord}
-use Rattle.replay_model.specs.Record.{Records, Counts, NoCell, NoRoom, Stale, Unused, Readies, counts_of, no_records, server_machine}
+use Rattle.replay_model.specs.Record.{Counts, NoCell, NoRoom, Stale, Unused, Readies, counts_of, no_records, server_machine}
 use Rattle.replay_model.specs.World.{World, Server, Client, numbered, first_client, booted_server, first_world}
-use Rattle.replay_model.specs.Step.{Outcome, impossible, discarded, call_by, call_event, server_takes, ready_cells, client_takes, deliver_event}
+use Rattle.replay_model.specs.Step.{impossible, discarded, call_by, call_event, server_takes, ready_cells, client_takes, deliver_event}
 use Rattle.replay_world.specs.declared.client.Took.{Took}
 use Rattle.replay_world.specs.declared.client.Took.TheVariants as took
 use Rattle.replay_world.specs.Client.{took_outcome, took_in, KeepsMissed}

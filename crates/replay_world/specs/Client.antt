@@ -1,5 +1,5 @@
 -- What a client does about a start and about a packet, as outcomes of the model.
-use Rattle.std.specs.Prelude.{◌≡◌, ℕ, ◌+◌, List, [], ◌∷◌, length, Bool}
+use Rattle.std.specs.Prelude.{◌≡◌, ℕ, ◌+◌, [], ◌∷◌, length}
 use Rattle.rpc_header.specs.declared.Activity.{Activity}
 use Rattle.call_rules.specs.Packet.{Packet}
 use Rattle.replay_model.specs.declared.event.CallWord.{CallWord}

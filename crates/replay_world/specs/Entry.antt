@@ -1,5 +1,4 @@
 -- An entry as the rules see it, with the words and the judgements of its states.
-use Rattle.std.specs.Prelude.{ℕ, List}
 use Rattle.call_rules.specs.Entry as rules
 use Rattle.replay_world.specs.declared.entry.EntryState.{EntryState}
 use Rattle.replay_world.specs.declared.entry.EntryState.TheVariants as state

@@ -1,6 +1,5 @@
 -- What a worker's step on the server stands for, as an outcome of the model.
 use Rattle.std.specs.Prelude.{◌≡◌, ℕ, ◌+◌, List, [], ◌∷◌, length, Option, Some, None, unwrap_or}
-use Rattle.rpc_header.specs.declared.Activity.{Activity}
 use Rattle.call_rules.specs.Packet.{Packet}
 use Rattle.call_rules.specs.Entry.{Entry, Empty}
 use Rattle.call_rules.specs.Worker.{Step, Run, Answer, drops, on_idle, on_claimed, on_ran, run_of, reply_packet, Full}

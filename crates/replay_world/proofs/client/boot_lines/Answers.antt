@@ -1,6 +1,6 @@
-use Rattle.std.proofs.Common.{◌≡◌, ℕ, ◌+◌, List, map, ap, ◌∙◌, arith}
+use Rattle.std.proofs.Common.{◌≡◌, ℕ, ◌+◌, map, ap, ◌∙◌, arith}
 use Rattle.std.specs.List.{range_with_len}
-use Rattle.replay_model.specs.World.{Line, booted_line}
+use Rattle.replay_model.specs.World.{booted_line}
 use Rattle.replay_world.proofs.Boot.{made_more}
 use Rattle.replay_world.proofs.client.boot_lines.Goals as goal
 

@@ -1,4 +1,4 @@
-use Rattle.std.proofs.Common.{◌≡◌, ℕ, ◌+◌, ◌-◌, ◌≤◌, ◌<◌, List, length, get_or, set, ap, sym, ◌∙◌, arith}
+use Rattle.std.proofs.Common.{◌≡◌, ℕ, ◌-◌, ◌≤◌, ◌<◌, List, length, get_or, ap, ◌∙◌, arith}
 use Rattle.replay_model.specs.World.{World, Client}
 use Rattle.replay_model.specs.Step.{client_takes}
 use Rattle.replay_world.proofs.Numbered.{numbered-low, numbered-none, numbered-some}

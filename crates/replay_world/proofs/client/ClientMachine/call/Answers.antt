@@ -1,4 +1,4 @@
-use Rattle.std.proofs.Common.{◌≡◌, ℕ, ◌+◌, ◌-◌, ◌≤◌, List, [], ◌∷◌, Option, Some, length, get_or, set, ap, sym, ◌∙◌, arith}
+use Rattle.std.proofs.Common.{ℕ, ◌-◌, ◌≤◌, List, [], ◌∷◌, length, get_or, set, ap, sym, ◌∙◌, arith}
 use Rattle.replay_model.specs.Record.{TooFast}
 use Rattle.replay_model.specs.World.{World, Client, Line}
 use Rattle.replay_model.specs.Step.{Outcome, with_client}

@@ -1,4 +1,4 @@
-use Rattle.std.proofs.Common.{◌≡◌, ap, sym, ◌∙◌, false}
+use Rattle.std.proofs.Common.{ap, sym, ◌∙◌}
 use Rattle.call_rules.specs.Packet.{Fields}
 use Rattle.call_rules.specs.Entry.{Word, is_same_word}
 use Rattle.replay_world.specs.Entry.{word_of_word}

@@ -1,4 +1,4 @@
-use Rattle.std.proofs.Common.{◌≡◌, ℕ, ◌+◌, ◌-◌, ◌≤◌, List, Option, Some, length, get_or, set, ap, sym, subst, ◌∙◌, arith}
+use Rattle.std.proofs.Common.{ℕ, ◌-◌, ◌≤◌, List, Option, Some, length, get_or, set, ap, sym, subst, ◌∙◌, arith}
 use Rattle.call_rules.specs.Worker.{Worker, Resting}
 use Rattle.replay_model.specs.World.{Server, numbered}
 use Rattle.replay_model.specs.Step.{work_event}

@@ -1,6 +1,6 @@
 use Rattle.std.proofs.Common.{◌≡◌, ℕ, ◌+◌, ◌-◌, ◌≤◌, List, [], ◌∷◌, ◌++◌, length, get_or, set, ap, sym, subst, ◌∙◌, arith}
 use Rattle.std.proofs.lemmas.Result.{on_ok_weaker}
-use Rattle.replay_model.specs.Record.{Records, Impossible, TooFast, Starts, Sends}
+use Rattle.replay_model.specs.Record.{Impossible, TooFast, Starts, Sends}
 use Rattle.replay_model.specs.World.{World, Client, numbered}
 use Rattle.replay_model.specs.Step.{Outcome, call_event, call_by, impossible}
 use Rattle.replay_world.specs.Stored.{Stored}

@@ -1,23 +1,19 @@
-use Rattle.std.proofs.Common.{◌≡◌, ℕ, ◌+◌, ◌-◌, ◌≤◌, List, [], ◌∷◌, ◌++◌, Option, Some, length, get_or, set, ap, sym, subst, ◌∙◌, refl, arith}
+use Rattle.std.proofs.Common.{◌≡◌, ℕ, ◌≤◌, List, ◌++◌, Some, length, ap, sym, subst, ◌∙◌, arith}
 use Rattle.std.proofs.lemmas.Result.{on_ok_weaker}
-use Rattle.std.specs.Prelude.{nat_lt}
-use Rattle.std.proofs.lemmas.Bool.{cond-true, cond-false}
 use Rattle.call_rules.specs.Packet.{Packet, Fields, call_of}
-use Rattle.replay_model.specs.Record.{Records, Impossible, Readies, Discards, NoRoom, NoCell, Stale, Unused, Hears, Returns}
-use Rattle.replay_model.specs.World.{World, Server, Client, numbered, packet_at}
-use Rattle.replay_model.specs.Step.{Outcome, discarded, impossible, server_takes, client_takes, deliver_event}
+use Rattle.replay_model.specs.Record.{Discards, NoCell, Stale, Unused, Hears, Returns}
+use Rattle.replay_model.specs.World.{numbered, packet_at}
+use Rattle.replay_model.specs.Step.{client_takes}
 use Rattle.replay_world.specs.Stored.{Stored}
 use Rattle.replay_world.specs.Played.{Keeps, Plays, world_with}
 use Rattle.replay_world.specs.contracts.world.World.{the_view}
-use Rattle.replay_model.specs.Lines.{lines_of_act, return_line}
-use Rattle.lane_checksum.specs.declared.Digest.{Digest}
+use Rattle.replay_model.specs.Lines.{return_line}
 use Rattle.std.proofs.lemmas.List.{append-nil}
 use Rattle.replay_model.specs.Record.{Counts}
 use Rattle.replay_world.specs.Digests.{digest, counts_return}
 use Rattle.replay_world.specs.Printed.{return_digest_line}
 use Rattle.replay_world.specs.Client.{took_in}
 use Rattle.replay_world.specs.declared.client.Took.{Took}
-use Rattle.replay_world.specs.declared.client.Took.TheVariants as took
 use Rattle.replay_world.proofs.Numbered.{numbered-some}
 use Rattle.replay_world.proofs.DigestLines.{digest_is, return_digest_line-digest}
 use Rattle.replay_world.proofs.WorldSteps.{same_item}

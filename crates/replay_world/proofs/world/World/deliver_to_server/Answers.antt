@@ -1,11 +1,10 @@
-use Rattle.std.proofs.Common.{◌≡◌, ℕ, ◌+◌, ◌-◌, ◌≤◌, List, [], ◌∷◌, ◌++◌, Option, Some, length, get_or, set, ap, sym, subst, ◌∙◌, refl, arith}
+use Rattle.std.proofs.Common.{◌≡◌, ℕ, ◌≤◌, List, [], ◌∷◌, ◌++◌, Some, length, ap, sym, subst, ◌∙◌, arith}
 use Rattle.std.proofs.lemmas.Result.{on_ok_weaker}
-use Rattle.std.specs.Prelude.{nat_lt}
 use Rattle.std.proofs.lemmas.Bool.{cond-true, cond-false}
-use Rattle.call_rules.specs.Packet.{Packet, Fields}
-use Rattle.replay_model.specs.Record.{Records, Impossible, Readies, Discards, NoRoom, NoCell, Stale, Unused, Hears, Returns}
-use Rattle.replay_model.specs.World.{World, Server, Client, numbered, packet_at}
-use Rattle.replay_model.specs.Step.{Outcome, discarded, impossible, server_takes, client_takes, deliver_event}
+use Rattle.call_rules.specs.Packet.{Packet}
+use Rattle.replay_model.specs.Record.{Readies, Discards, NoRoom}
+use Rattle.replay_model.specs.World.{Server, packet_at}
+use Rattle.replay_model.specs.Step.{server_takes}
 use Rattle.replay_world.specs.Stored.{Stored}
 use Rattle.replay_world.specs.Played.{Keeps, Plays, world_with}
 use Rattle.replay_world.specs.contracts.world.World.{the_view}

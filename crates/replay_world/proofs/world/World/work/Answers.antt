@@ -1,10 +1,10 @@
-use Rattle.std.proofs.Common.{◌≡◌, ℕ, ◌+◌, ◌-◌, ◌≤◌, List, [], ◌∷◌, ◌++◌, length, get_or, set, ap, sym, subst, ◌∙◌, refl, arith}
+use Rattle.std.proofs.Common.{◌≡◌, ℕ, ◌+◌, List, [], ◌∷◌, ◌++◌, length, ap, sym, subst, ◌∙◌}
 use Rattle.std.proofs.lemmas.List.{append-nil}
 use Rattle.std.proofs.lemmas.Result.{on_ok_weaker}
 use Rattle.call_rules.specs.Packet.{Packet, Fields}
 use Rattle.call_rules.specs.Worker as rules
 use Rattle.call_rules.specs.Worker.{Run}
-use Rattle.replay_model.specs.Record.{Records, Counts, Impossible, Rests, Works, HasRun, Sends}
+use Rattle.replay_model.specs.Record.{Counts, Impossible, Rests, Works, HasRun, Sends}
 use Rattle.replay_model.specs.Lines.{lines_of_act}
 use Rattle.replay_model.specs.World.{World, Server, numbered}
 use Rattle.replay_model.specs.Step.{Outcome, work_event, impossible}
