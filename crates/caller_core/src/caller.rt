@@ -5,11 +5,8 @@ ghost use Rattle.call_rules.specs.Packet.{call_of, fields_of, is_same_call};
 ghost use Rattle.call_rules.specs.Caller as rules;
 
 use crate::action::Action;
-use rpc_header::{Activity, CallId, CallNumber, Export, Header, Kind};
+use rpc_header::{Activity, CallId, CallNumber, Export, Header, Kind, MAX_DATA};
 use std::marker::Model;
-
-/// The most bytes of arguments that one packet carries.
-pub const PIECE_BYTES: usize = 1440;
 
 #[derive(Clone, Copy, PartialEq, Eq, Debug)]
 enum State {
@@ -94,7 +91,7 @@ impl Caller {
         len: usize,
     ) -> Action
         requires idle { self.old.state ≡ rules.Idle }
-        requires one_piece { len ≤ PIECE_BYTES }
+        requires one_piece { len ≤ MAX_DATA }
         ensures caller { self.new ≡ (rules.on_start_call self.old number.value export procedure len).caller }
         ensures act { act_of result ≡ (rules.on_start_call self.old number.value export procedure len).act }
     {

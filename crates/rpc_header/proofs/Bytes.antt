@@ -35,7 +35,7 @@ byte_at-small : (k x : ℕ) → byte_at k x < 256
 byte_at-small zero x = mod-lt x (lit< tt)
 byte_at-small (suc k) x = mod-lt (x / 256 ^ suc k) (lit< tt)
 
-bytes-high_first : (n x : ℕ) → AreBytes (bytes_high_first n x)
+pub bytes-high_first : (n x : ℕ) → AreBytes (bytes_high_first n x)
 bytes-high_first zero x = bytes-nil
 bytes-high_first (suc n) x = bytes-cons (byte_at n x) (bytes_high_first n x) (byte_at-small n x) (bytes-high_first n x)
 

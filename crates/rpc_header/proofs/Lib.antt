@@ -5,3 +5,4 @@ pub mod Bytes
 pub mod Spelled
 pub mod ReadBack
 pub mod Written
+pub mod SpellingBytes

@@ -11,7 +11,10 @@ mod layout;
 mod reading;
 mod writing;
 
-pub use laws::{what_is_read_was_written, what_is_written_is_read};
+pub use laws::{
+    a_call_number_is_its_value, a_spelling_is_32_bytes, what_is_read_was_written,
+    what_is_written_is_read,
+};
 pub use layout::{HEADER_LEN, MAX_DATA};
 pub use reading::read_header;
 pub use writing::{fits, write_header};

@@ -1,6 +1,9 @@
 //! Where the fields of a frame stand that are read, and the values that they have in this network. The Ethernet
 //! header is that of RFC 894, the IP header that of RFC 791 without options, the UDP header that of RFC 768.
 
+/// The bytes of a frame in front of its payload: the headers of Ethernet, IP and UDP.
+pub const HEADERS_LEN: usize = ETHERNET_LEN + INTERNET_LEN + UDP_LEN;
+
 // The Ethernet header.
 pub(crate) const ETHERNET_DESTINATION: usize = 0;
 
@@ -36,7 +39,7 @@ pub(crate) const UDP_LENGTH: usize = 38;
 
 pub(crate) const UDP_CHECKSUM: usize = 40;
 
-pub(crate) const PAYLOAD: usize = 42;
+pub(crate) const PAYLOAD: usize = HEADERS_LEN;
 
 // The lengths of the headers, and of what the UDP checksum covers in front of the UDP header.
 pub(crate) const ETHERNET_LEN: usize = 14;

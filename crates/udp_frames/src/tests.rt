@@ -26,16 +26,13 @@ const SENDER: Station = Station { machine: 2 };
 
 const RECEIVER: Station = Station { machine: 1 };
 
-/// The number of bytes in front of the data.
-const HEADERS: usize = 42;
-
 #[test]
 fn worked_frames_are_written(rt: HostRuntime) -> Result<(), Fail> {
     for frame in [EMPTY_CALL.as_slice(), CHECKSUM_OF_ZERO.as_slice()] {
-        assert!(rt; frame.len() >= HEADERS && frame.len() <= 100);
+        assert!(rt; frame.len() >= HEADERS_LEN && frame.len() <= 100);
         let mut buffer = [0xee; 100];
-        buffer[HEADERS..frame.len()].copy_from_slice(&frame[HEADERS..]);
-        write_headers(&mut buffer, SENDER, RECEIVER, frame.len() - HEADERS);
+        buffer[HEADERS_LEN..frame.len()].copy_from_slice(&frame[HEADERS_LEN..]);
+        write_headers(&mut buffer, SENDER, RECEIVER, frame.len() - HEADERS_LEN);
         assert_eq!(rt; &buffer[..frame.len()], frame);
         assert!(rt; buffer[frame.len()..].iter().all(|byte| *byte == 0xee));
     }
@@ -47,7 +44,7 @@ fn worked_frames_are_read(rt: HostRuntime) -> Result<(), Fail> {
     for frame in [EMPTY_CALL.as_slice(), CHECKSUM_OF_ZERO.as_slice()] {
         let seen = read_frame(frame, RECEIVER)?;
         assert_eq!(rt; seen.from, SENDER);
-        assert_eq!(rt; Some(seen.payload), frame.get(HEADERS..));
+        assert_eq!(rt; Some(seen.payload), frame.get(HEADERS_LEN..));
     }
     Ok(())
 }
@@ -86,6 +83,14 @@ fn damaged_frames_are_refused(rt: HostRuntime) {
         }
         assert_eq!(rt; read_frame(&frame, RECEIVER), Err(fault));
     }
+    // Its sum is right with the field as it was sent, and without it too.
+    let mut without_checksum = CHECKSUM_OF_ZERO;
+    without_checksum[40] = 0;
+    without_checksum[41] = 0;
+    assert_eq!(rt;
+        read_frame(&without_checksum, RECEIVER),
+        Err(FrameFault::NoChecksum)
+    );
     assert_eq!(rt;
         read_frame(&EMPTY_CALL[..41], RECEIVER),
         Err(FrameFault::Short)

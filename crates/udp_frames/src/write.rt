@@ -11,6 +11,9 @@ use lane_checksum::{add, finish, sum};
 /// The largest length of data in one frame.
 pub const LARGEST_PAYLOAD: usize = 1472;
 
+/// The largest length of a frame.
+pub const LARGEST_FRAME: usize = HEADERS_LEN + LARGEST_PAYLOAD;
+
 /// Makes the first `42 + data_len` bytes of `buffer` a frame round the `data_len` bytes from place 42 on.
 pub fn write_headers(buffer: &mut [u8], from: Station, to: Station, data_len: usize)
     requires fits { data_len ≤ LARGEST_PAYLOAD }
