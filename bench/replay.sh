@@ -1,23 +1,24 @@
 #!/bin/sh
 # Prints the time that a script line takes, for scripts of about 2,000, 6,000 and 18,000 lines, and its ratio to that
 # of the smallest: the cost of a script should grow linearly with its lines. In these scripts the 64 activities have
-# calls open at once, again and again. Each is played many times, the processor's time is taken, and the best run
-# counts; what the program takes to start is measured by the shortest script and left out. It is run by hand and is
-# no part of the gate: a busy machine's times are worth little.
+# calls open at once, again and again; half of the calls are of null, half of add. Each script is played many times,
+# the processor's time is taken, and the best run counts; what the program takes to start is measured by the
+# shortest script and left out. It is run by hand and is no part of the gate: a busy machine's times are worth
+# little.
 set -eu
 cd "$(dirname "$0")/.."
 runs=${1:-200}
 work=$(mktemp -d)
 trap 'rm -rf "$work"' EXIT
 
-# script CALLS: the activities in turn call Null, as many at once as there are activities; the packets are delivered
-# in their order, and worker after worker makes the four steps of the oldest call that is ready.
+# script CALLS: the activities in turn call null and add, as many at once as there are activities; the packets are
+# delivered in their order, and worker after worker makes the four steps of the oldest call that is ready.
 script() {
     awk -v calls="$1" '
         BEGIN {
             for (made = 0; made < calls; made += open) {
                 open = calls - made < 64 ? calls - made : 64
-                for (i = 0; i < open; i++) print "call", 2 + int(i / 8), 1 + i % 8, "null"
+                for (i = 0; i < open; i++) print "call", 2 + int(i / 8), 1 + i % 8, (i % 2 ? "add 1 2" : "null")
                 for (i = 0; i < open; i++) print "deliver", 2 * made + 1 + i
                 for (i = 0; i < open; i++) for (step = 0; step < 4; step++) print "work", 1 + i % 4
                 for (i = 0; i < open; i++) print "deliver", 2 * made + open + 1 + i

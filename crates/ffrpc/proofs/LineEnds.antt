@@ -1,9 +1,9 @@
 -- What is printed of any event is whole lines.
-use Rattle.std.proofs.Common.{◌≡◌, ℕ, ◌+◌, List, [], ◌∷◌, ◌++◌, Bool, true, false, refl, sym, ap, ◌∙◌, inl, inr, append_assoc, append-nil}
+use Rattle.std.proofs.Common.{ℕ, ◌+◌, List, [], ◌∷◌, ◌++◌, length, Bool, true, false, refl, sym, ap, ◌∙◌, inl, inr, append_assoc, append-nil}
 use Rattle.call_rules.specs.Packet.{Call}
 use Rattle.call_rules.specs.Worker.{Run}
 use Rattle.replay_model.specs.Record as act
-use Rattle.replay_model.specs.Lines.{lines_of_act, lines_of, return_line, journal_lines, run_lines, run_line, run_text, end_line, newline, blank, call_text, bytes_text, exception_number, packet_text, discard_text, did_text}
+use Rattle.replay_model.specs.Lines.{lines_of_act, lines_of, return_line, journal_lines, run_lines, run_line, run_text, end_line, newline, blank, call_text, bytes_text, exception_number, hex, packet_text, discard_text, did_text}
 use Rattle.std.specs.Fmt.{decimal}
 use Rattle.std.specs.Prelude.{codes}
 use Rattle.ffrpc.specs.Replay.{EndsLine}
@@ -49,9 +49,10 @@ act_ends (act.Readies k) = ends (codes "ready " ++ decimal k)
 act_ends (act.Hears a k) = inl refl
 act_ends (act.Returns r) = return_ends r.call r.signal r.reply
 act_ends (act.Discards why) = ends (codes "drop " ++ discard_text why)
-act_ends (act.Rests number) = ends (codes "worker " ++ decimal number ++ codes " idle")
+act_ends (act.Idles number) = ends (codes "worker " ++ decimal number ++ codes " idle")
 act_ends (act.Works number n did) = ends (codes "worker " ++ decimal number ++ blank ++ did_text n did)
 act_ends (act.HasRun run) = inl refl
+act_ends (act.Shows k bytes) = ends (codes "frame " ++ decimal k ++ blank ++ decimal (length bytes) ++ blank ++ hex bytes)
 act_ends (act.ListsRuns runs) = journal_ends runs
 act_ends (act.Ends counts) = end_ends counts
 

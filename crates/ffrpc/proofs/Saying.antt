@@ -1,5 +1,5 @@
 -- From what the parts of `replay` say to what its status says.
-use Rattle.std.proofs.Common.{◌≡◌, ◌⊎◌, ℕ, zero, suc, ◌+◌, ◌≤◌, ◌<◌, List, [], ◌∷◌, ◌++◌, length, take, Option, Some, refl, sym, ap, subst, ◌∙◌, inl, inr, append-nil, arith}
+use Rattle.std.proofs.Common.{◌≡◌, ℕ, zero, suc, ◌≤◌, List, [], ◌++◌, length, take, Option, refl, ap, subst, ◌∙◌, inl, inr, append-nil, arith}
 use Rattle.ff_io.specs.Count.{Rose}
 use Rattle.ff_io.specs.Told.{Appended}
 use Rattle.ff_io.proofs.ToldLemmas.{Appended-append}

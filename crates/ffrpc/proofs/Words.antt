@@ -1,5 +1,5 @@
 -- One word, and whether it is a text.
-use Rattle.std.proofs.Common.{◌≡◌, ◌≤◌, ◌<◌, List, [], ◌∷◌, ℕ, length, get_or, map, Bool, true, false, refl, sym, ap, ◌∙◌, arith, rules, nat_eq}
+use Rattle.std.proofs.Common.{◌≡◌, ◌≤◌, ◌<◌, List, [], ◌∷◌, ℕ, length, get_or, map, Bool, true, false, sym, ap, ◌∙◌, arith, rules, nat_eq}
 use Rattle.std.specs.Prelude.{IsTrue}
 use Rattle.std.specs.Cmp.Lexicographic.{pointwise, same_text, other_text}
 

@@ -36,4 +36,6 @@ fn words_of<R: Env + AllocGlobal>(rt: &R) -> io::Result<Vec<String>> {
 }
 
 #[cfg(test)]
+mod rows;
+#[cfg(test)]
 mod tests;

@@ -1,10 +1,10 @@
 //! `replay`: a script is read to its end, then played, and its transcript is written.
 
-ghost use Rattle.std.specs.Prelude.{◌≡◌, ◌≢◌, ◌≤◌, ◌<◌, ℕ, List, [], ◌∷◌, length, take, Some, IfOk, IfErr, OnOk, OnErr, vec_len, IfSome, All, MatchResult};
+ghost use Rattle.std.specs.Prelude.{◌≡◌, ◌≢◌, ◌≤◌, ◌<◌, ℕ, List, [], ◌∷◌, length, take, IfOk, IfErr, OnOk, OnErr, vec_len, IfSome, All};
 ghost use Rattle.ff_io.specs.Count.{Rose};
 ghost use Rattle.ff_io.specs.Told.{Appended};
 ghost use Rattle.replay_model.specs.Script as model;
-ghost use Rattle.replay_model.specs.Script.{IsScript, InRange};
+ghost use Rattle.replay_model.specs.Script.{InRange};
 ghost use Rattle.replay_model.specs.Transcript.{transcript};
 ghost use Rattle.script_text.specs.Reading.{script_of};
 ghost use Rattle.ffrpc.specs.Status.{fault_line};

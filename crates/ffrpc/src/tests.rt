@@ -1,4 +1,4 @@
-//! The program over sources and sinks in memory.
+//! The program over sources and sinks in memory: how it ends.
 
 ghost use Rattle.std.specs.Prelude.{◌≤◌};
 
@@ -16,7 +16,7 @@ const EMPTY_CALL_TRANSCRIPT: &[u8] =
 
 /// The outside of a run: the input, which reads and writes fail, and the most bytes of one.
 #[derive(Clone, Copy)]
-struct Given<'a> {
+pub struct Given<'a> {
     input: &'a [u8],
     failing_reads: &'a [u64],
     failing_writes: &'a [u64],
@@ -24,7 +24,7 @@ struct Given<'a> {
 }
 
 /// A run whose outside never fails.
-fn never_failing(input: &[u8]) -> Given<'_> {
+pub fn never_failing(input: &[u8]) -> Given<'_> {
     Given {
         input,
         failing_reads: &[],
@@ -34,7 +34,11 @@ fn never_failing(input: &[u8]) -> Given<'_> {
 }
 
 /// The status of a run, and what it has written.
-fn ran(alloc: Global, words: &[&str], outside: &Given) -> Result<(Status, Vec<u8>), AllocError> {
+pub fn ran(
+    alloc: Global,
+    words: &[&str],
+    outside: &Given,
+) -> Result<(Status, Vec<u8>), AllocError> {
     let most = outside.most.max(1);
     let mut all_words = Vec::new(alloc);
     for word in words {
@@ -140,7 +144,7 @@ fn texts_outside_the_grammar_are_refused(rt: HostRuntime) -> Result<(), Fail> {
         b"deliver 01\nend\n",
         b"end\njournal\n",
         b"deliver 1\ndeliver 1\nend\n",
-        b"\nend\n",
+        b"end\r",
         b"call 2 9 null\nend\n",
     ];
     for text in table {

@@ -4,6 +4,7 @@ use Rattle.std.specs.Prelude.{Contains}
 use Rattle.std.proofs.lemmas.Bool.{false≢true}
 use Rattle.once_law.proofs.Lists.{members_push, none_twice_push}
 use Rattle.once_law.proofs.Places.{line_at_read, lines_set}
+use Rattle.once_law.proofs.Growth.{HasRoom-kept}
 use Rattle.once_law.proofs.Parts.{IsCallPacket, HasRun, IsLine, Inv}
 use Rattle.call_rules.specs.Packet.{Packet}
 use Rattle.call_rules.specs.Entry.{Entry}
@@ -36,6 +37,8 @@ pub record Returned (l after : Line) (x : Return) : Type 0 where
   pub is_idle_now : is_idle after.caller.state ≡ true
   pub same_activity : after.caller.activity ≡ l.caller.activity
   pub same_next : after.next ≡ l.next
+  pub same_hint : after.caller.hint ≡ l.caller.hint
+  pub same_binding : after.binding ≡ l.binding
   pub own_call : x.call ≡ current_call l.caller
 
 line_of_other : (starts : List Start) (returns : List Return) (x : Return) (m p n q : ℕ) (l k : Line) → IsLine starts returns m p l → x.call.activity ≡ l.caller.activity → IsLine starts returns n q k → (n ≡ m → q ≡ p → ⊥) → IsLine starts (returns ++ x ∷ []) n q k
@@ -48,6 +51,7 @@ line_of_other starts returns x m p n q l k hl ex hk ne =
           (λ e.
           let same = sym hk.own_activity ∙ sym (ap (λ c. c.activity) e) ∙ ex ∙ hl.own_activity in
           ne (ap (λ a. a.machine) same) (ap (λ a. a.process) same));
+      has_room = hk.has_room;
     }
 
 line_that_returns : (starts : List Start) (returns : List Return) (x : Return) (m p : ℕ) (l after : Line) → IsLine starts returns m p l → Returned l after x → IsLine starts (returns ++ x ∷ []) m p after
@@ -57,6 +61,7 @@ line_that_returns starts returns x m p l after hl new =
       has_entry = rw new.same_activity hl.has_entry;
       used_numbers = λ t c e. let below : t.call.number < l.next = hl.used_numbers t c (e ∙ new.same_activity) in omega (arith, new.same_next);
       not_returned = λ o. absurd (false≢true (sym o ∙ new.is_idle_now));
+      has_room = HasRoom-kept l after new.same_hint new.same_binding hl.has_room;
     }
 
 -- a process returns

@@ -1,6 +1,8 @@
 pub mod Lists
 pub mod Places
 pub mod Parts
+pub mod Framing
+pub mod Arriving
 pub mod Growth
 pub mod Starting
 pub mod Delivering

@@ -1,15 +1,19 @@
 -- What the rows of the rule tables say that the invariant needs.
-use Rattle.std.proofs.Common.{◌≡◌, ℕ, zero, suc, ◌≤◌, List, [], ◌∷◌, length, Bool, true, false, cond, refl, ap, ◌∙◌, arith, eqb, eqb-true}
-use Rattle.std.proofs.lemmas.Bool.{false≢true, and_parts}
-use Rattle.once_law.proofs.Parts.{answer_kind}
+use Rattle.std.proofs.Common.{◌≡◌, ℕ, zero, suc, ◌+◌, ◌<◌, List, [], ◌∷◌, length, drop, Bool, true, false, cond, refl, ap, ◌∙◌, arith, eqb, eqb-true, leb}
+use Rattle.std.proofs.lemmas.Bool.{false≢true, and_parts, cond_both}
+use Rattle.std.proofs.lemmas.List.Elements.{All-nil, All-cons}
+use Rattle.byteorder.specs.Endian.{big_bytes, big_number}
+use Rattle.once_law.proofs.Framing.{number_bytes}
+use Rattle.once_law.proofs.Parts.{IsOnePiece, answer_kind}
 use Rattle.rpc_header.specs.declared.Activity.{Activity}
 use Rattle.rpc_header.specs.declared.Kind.{Kind}
 use Rattle.rpc_header.specs.declared.Kind.TheVariants as kind
-use Rattle.call_rules.specs.Packet.{Call, Fields, is_same_call, is_same_activity, piece_size}
+use Rattle.call_rules.specs.Packet.{Call, Fields, is_same_call, is_same_activity}
 use Rattle.call_rules.specs.Entry.{Word, Phase, IsEmpty, IsGather, IsFilling, IsRunning, IsDone, IsSending, is_same_phase, is_same_word}
 use Rattle.call_rules.specs.Caller.{Caller, State, Act, Last, is_idle, current_call, on_packet, on_own_packet, unused, row}
 use Rattle.call_rules.specs.Caller as caller
-use Rattle.replay_model.specs.Service.{served}
+use Rattle.replay_model.specs.Script.{largest_number}
+use Rattle.replay_model.specs.Service.{served, adds, replies, raises}
 
 pub same_phase : (a b : Phase) → is_same_phase a b ≡ true → a ≡ b
 same_phase IsEmpty IsEmpty e = refl
@@ -53,9 +57,10 @@ pub record IsLast (c : Caller) (k : Kind) (signal : Bool) (after : Caller) : Typ
   pub same_kind : k ≡ answer_kind signal
   pub is_idle_now : is_idle after.state ≡ true
   pub same_activity : after.activity ≡ c.activity
+  pub same_hint : after.hint ≡ c.hint
 
 last_of : (c : Caller) (k : Kind) (b s signal : Bool) (h : Fields) → k ≡ answer_kind s → (cond b (row c caller.Idle 0 0 (Last s)) (unused c)).act ≡ Last signal → IsLast c k signal (cond b (row c caller.Idle 0 0 (Last s)) (unused c)).caller
-last_of c k true s signal h e a = record { same_kind = e ∙ ap answer_kind (cc); is_idle_now = refl; same_activity = refl }
+last_of c k true s signal h e a = record { same_kind = e ∙ ap answer_kind (cc); is_idle_now = refl; same_activity = refl; same_hint = refl }
 last_of c k false s signal h e a = cc
 
 pub last_of_own_packet : (c : Caller) (s : State) (k : Kind) (h : Fields) (signal : Bool) → (on_own_packet c s k h).act ≡ Last signal → IsLast c k signal (on_own_packet c s k h).caller
@@ -71,8 +76,32 @@ last_of_packet c h signal = go (is_same_call h.call (current_call c)) refl
     go true e a = (same_call h.call (current_call c) e, last_of_own_packet c c.state h.kind h signal a)
     go false e a = cc
 
--- what the answers of the test service are: they fit a packet
-pub served_fits : (total procedure : ℕ) (arguments : List ℕ) → length (served total procedure arguments).answer.reply ≤ piece_size
-served_fits total zero [] = omega arith
-served_fits total zero (b ∷ bytes) = omega arith
-served_fits total (suc other) bytes = omega arith
+no_reply : IsOnePiece []
+no_reply = record { fits = omega arith; are_bytes = All-nil (λ byte. byte < 256) }
+
+exception_reply : (exception : ℕ) → exception < 256 → IsOnePiece (0 ∷ exception ∷ [])
+exception_reply exception h =
+    record {
+      fits = omega arith;
+      are_bytes = All-cons (λ byte. byte < 256) 0 (exception ∷ []) (omega arith) (All-cons (λ byte. byte < 256) exception [] h (All-nil (λ byte. byte < 256)));
+    }
+
+number_reply : (n : ℕ) → IsOnePiece (big_bytes 4 n)
+number_reply n = record { fits = omega arith; are_bytes = number_bytes 4 n }
+
+adds_one_piece : (total a b : ℕ) → IsOnePiece (adds total a b).answer.reply
+adds_one_piece total a b =
+    cond_both (leb (a + b) largest_number) (replies total (big_bytes 4 (a + b))) (raises total 1) (λ s. IsOnePiece s.answer.reply)
+    (λ fits. number_reply (a + b)) (λ large. exception_reply 1 (omega arith))
+
+-- what the test service answers is one piece
+pub served_one_piece : (total procedure : ℕ) (arguments : List ℕ) → IsOnePiece (served total procedure arguments).answer.reply
+served_one_piece total zero bytes =
+    cond_both (eqb (length bytes) 0) (replies total []) (raises total 0) (λ s. IsOnePiece s.answer.reply)
+    (λ none. no_reply) (λ some. exception_reply 0 (omega arith))
+served_one_piece total (suc zero) bytes =
+    let a = big_number 4 bytes in
+    let b = big_number 4 (drop 4 bytes) in
+    cond_both (eqb (length bytes) 8) (adds total a b) (raises total 0) (λ s. IsOnePiece s.answer.reply)
+    (λ two. adds_one_piece total a b) (λ other. exception_reply 0 (omega arith))
+served_one_piece total (suc (suc other)) bytes = exception_reply 0 (omega arith)

@@ -4,8 +4,9 @@ use Rattle.std.specs.Prelude.{Contains}
 use Rattle.std.proofs.lemmas.List.Elements.{Contains-push}
 use Rattle.once_law.proofs.Lists.{members_push}
 use Rattle.once_law.proofs.Places.{numbered_read, line_at_read, lines_set, lines_set_client}
-use Rattle.once_law.proofs.Parts.{IsStarted, IsSent, IsLine, Inv}
-use Rattle.once_law.proofs.Growth.{IsCallPacket-more_starts, IsSent-more_starts, IsWorker-more_starts, more_starts}
+use Rattle.once_law.proofs.Parts.{IsStarted, CanBeFramed, IsSent, IsLine, Inv}
+use Rattle.once_law.proofs.Growth.{HasRoom-kept, IsCallPacket-more_starts, IsSent-more_starts, IsWorker-more_starts, more_starts}
+use Rattle.rpc_header.specs.declared.Kind.TheVariants as kind
 use Rattle.call_rules.specs.Packet.{Packet}
 use Rattle.call_rules.specs.Entry.{Entry}
 use Rattle.call_rules.specs.Worker.{Worker, Run}
@@ -36,13 +37,17 @@ pub record StartsCall (l after : Line) (s : Start) : Type 0 where
   pub new_number : after.caller.number ≡ l.next
   pub new_next : after.next ≡ l.next + 1
   pub same_call : s.call ≡ current_call after.caller
+  pub same_hint : after.caller.hint ≡ l.caller.hint
+  pub same_binding : after.binding ≡ l.binding
 
 -- the packet of a call that was started
 pub record IsFirstPacket (machine : ℕ) (s : Start) (p : Packet) : Type 0 where
   pub from_machine : p.from ≡ machine
+  pub same_kind : p.header.kind ≡ kind.Call
   pub same_call : s.call ≡ p.header.call
   pub same_procedure : s.procedure ≡ p.header.procedure
   pub same_arguments : s.arguments ≡ p.payload
+  pub framed : CanBeFramed p
 
 line_of_other : (starts : List Start) (returns : List Return) (s : Start) (m p n q : ℕ) (l k : Line) → IsLine starts returns m p l → s.call.activity ≡ l.caller.activity → IsLine starts returns n q k → (n ≡ m → q ≡ p → ⊥) → IsLine (starts ++ s ∷ []) returns n q k
 line_of_other starts returns s m p n q l k hl es hk ne =
@@ -52,6 +57,7 @@ line_of_other starts returns s m p n q l k hl es hk ne =
       used_numbers = members_push (λ t. t.call.activity ≡ k.caller.activity → t.call.number < k.next) starts s hk.used_numbers
           (λ e. let same = sym hk.own_activity ∙ sym e ∙ es ∙ hl.own_activity in absurd (ne (ap (λ a. a.machine) same) (ap (λ a. a.process) same)));
       not_returned = hk.not_returned;
+      has_room = hk.has_room;
     }
 
 line_that_starts : (starts : List Start) (journal : List Run) (returns : List Return) (s : Start) (m p : ℕ) (l after : Line) → IsLine starts returns m p l → StartsCall l after s → ((r : Run) → Contains journal r → IsStarted starts r.call r.procedure r.arguments) → ((x : Return) → Contains returns x → (r : Run) × Contains journal r × (r.call ≡ x.call)) → IsLine (starts ++ s ∷ []) returns m p after
@@ -68,6 +74,7 @@ line_that_starts starts journal returns s m p l after hl new runs told =
           let same : st.start.call ≡ current_call after.caller = st.same_call ∙ t.2 ∙ e in
           let below : st.start.call.number < l.next = hl.used_numbers st.start st.is_listed (ap (λ d. d.activity) same ∙ new.same_activity) in
           absurd (omega (arith, ap (λ d. d.number) same, new.new_number));
+      has_room = HasRoom-kept l after new.same_hint new.same_binding hl.has_room;
     }
 
 -- a process starts a call
@@ -88,6 +95,8 @@ Inv-start cs es ws ready bag starts journal returns m p c d l after s k h ec el 
           (record {
             to_server = λ e. record {
               from_client = λ f. absurd (omega (arith, first.from_machine));
+              same_kind = first.same_kind;
+              names_sender = ap (λ x. x.activity.machine) (sym first.same_call ∙ new.same_call) ∙ ap (λ a. a.machine) (new.same_activity ∙ hl.own_activity) ∙ sym first.from_machine;
               has_entry = subst (λ a. is_entry_activity a ≡ true) (sym new.same_activity ∙ ap (λ x. x.activity) (sym new.same_call ∙ first.same_call)) hl.has_entry;
               is_started = record {
                 start = s;
@@ -96,6 +105,7 @@ Inv-start cs es ws ready bag starts journal returns m p c d l after s k h ec el 
                 same_procedure = first.same_procedure;
                 same_arguments = first.same_arguments;
               };
+              framed = first.framed;
             };
             to_client = λ ne. absurd (ne to);
           });

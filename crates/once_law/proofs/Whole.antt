@@ -7,7 +7,9 @@ use Rattle.std.proofs.lemmas.List.{length-replicate}
 use Rattle.once_law.proofs.Lists.{all_of_members}
 use Rattle.once_law.proofs.Places.{numbered_read}
 use Rattle.once_law.proofs.Parts.{IsLine, IsWorker, running, Holds}
+use Rattle.once_law.proofs.Arriving.{Laws, CanArrive, sent_can_arrive}
 use Rattle.once_law.proofs.Steps.{Holds-step}
+use Rattle.call_rules.specs.Packet.{Packet}
 use Rattle.call_rules.specs.Worker.{Worker, Resting}
 use Rattle.call_rules.specs.Entry.{Empty}
 use Rattle.replay_model.specs.declared.event.Event.{Event}
@@ -50,6 +52,7 @@ booted_is_line m p a b c d =
       has_entry = grind (arith, nat_tests);
       used_numbers = λ s g. absurd (none_in_empty s g);
       not_returned = λ o x g. absurd (none_in_empty x g);
+      has_room = record { hint = omega arith; identifier = omega arith; index = omega arith };
     }
 
 first_lines : (m p : ℕ) (l : Line) → line_at (map (booted_client 1) (eight 2)) m p ≡ Some l → IsLine [] [] m p l
@@ -73,34 +76,41 @@ first_worker i v g = replicate_read 4 Resting (i - 1) v (numbered_read 1 (replic
 pub Holds-first : (small long : ℕ) → Holds (first_world small long)
 Holds-first small long =
     record {
-      lines = first_lines;
-      entry_count = length-replicate 64 Empty;
-      works = λ i v g. subst (λ u. IsWorker [] [] (replicate 64 Empty) u) (sym (first_worker i v g)) tt;
-      apart = λ i j v u gv gu ne p hp. absurd (none-some p (sym (ap running (first_worker i v gv)) ∙ hp));
-      waits = λ p c. absurd (none_in_empty p c);
-      sent = λ p c. absurd (none_in_empty p c);
-      remembered = λ r c. absurd (none_in_empty r c);
-      runs_started = λ r c. absurd (none_in_empty r c);
-      runs_once = tt;
-      returns_run = λ x c. absurd (none_in_empty x c);
-      returns_once = tt;
+      second_fits = omega arith;
+      parts = record {
+        lines = first_lines;
+        entry_count = length-replicate 64 Empty;
+        works = λ i v g. subst (λ u. IsWorker [] [] (replicate 64 Empty) u) (sym (first_worker i v g)) tt;
+        apart = λ i j v u gv gu ne p hp. absurd (none-some p (sym (ap running (first_worker i v gv)) ∙ hp));
+        waits = λ p c. absurd (none_in_empty p c);
+        sent = λ p c. absurd (none_in_empty p c);
+        remembered = λ r c. absurd (none_in_empty r c);
+        runs_started = λ r c. absurd (none_in_empty r c);
+        runs_once = tt;
+        returns_run = λ x c. absurd (none_in_empty x c);
+        returns_once = tt;
+      };
     }
 
-pub Holds-run : (w : World) (events : List Event) → Holds w → Holds (run w events)
-Holds-run w [] h = h
-Holds-run w (e ∷ es) h = Holds-run (step w e) es (Holds-step w e h)
+pub Holds-run : Laws → (w : World) (events : List Event) → Holds w → Holds (run w events)
+Holds-run laws w [] h = h
+Holds-run laws w (e ∷ es) h = Holds-run laws (step w e) es (Holds-step laws w e h)
+
+-- each packet that was sent in the course of any events can arrive
+pub all_can_arrive : Laws → (small long : ℕ) (events : List Event) (p : Packet) → Contains (run (first_world small long) events).bag p → CanArrive p
+all_can_arrive laws small long events p c = sent_can_arrive ((Holds-run laws (first_world small long) events (Holds-first small long)).parts.sent p c)
 
 pub once_holds : (w : World) → Holds w → Once w
 once_holds w h =
     record {
-      runs_once = h.runs_once;
+      runs_once = h.parts.runs_once;
       runs_were_started = all_of_members (WasStarted w.records) w.records.journal
           (λ r c.
-          let s = h.runs_started r c in
+          let s = h.parts.runs_started r c in
           record { start = s.start; is_listed = s.is_listed; same_call = s.same_call; same_procedure = s.same_procedure; same_arguments = s.same_arguments });
       returns_tell_their_run = all_of_members (TellsRun w.records) w.records.returns
           (λ x c.
-          let t = h.returns_run x c in
+          let t = h.parts.returns_run x c in
           record { run = t.run; is_listed = t.is_listed; same_call = t.same_call; same_signal = t.same_signal; same_reply = t.same_reply });
-      returns_once = h.returns_once;
+      returns_once = h.parts.returns_once;
     }

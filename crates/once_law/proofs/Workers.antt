@@ -1,12 +1,13 @@
 -- The invariant is kept by each row of the worker's rules.
-use Rattle.std.proofs.Common.{◌≡◌, ◌≢◌, ℕ, ◌<◌, ◌≤◌, List, [], ◌∷◌, ◌++◌, length, Some, None, Bool, refl, ap, sym, ◌∙◌, subst, arith, inl, inr, ◌⊎◌}
+use Rattle.std.proofs.Common.{◌≡◌, ◌≢◌, ℕ, ◌<◌, ◌≤◌, List, [], ◌∷◌, ◌++◌, Some, None, Bool, refl, ap, sym, ◌∙◌, subst, arith, inl, inr, ◌⊎◌}
 use Rattle.std.specs.Prelude.{Contains}
 use Rattle.std.proofs.lemmas.List.Elements.{Contains-push}
 use Rattle.std.proofs.lemmas.Bool.Decides.{nat_tests}
 use Rattle.std.proofs.lemmas.Option.{same_Some, none-some}
 use Rattle.once_law.proofs.Lists.{members_push, none_twice_push, take_short}
 use Rattle.once_law.proofs.Places.{numbered_read, numbered_set, entries_set, entries_kept, entries_other, entry_written, length-with_entry}
-use Rattle.once_law.proofs.Parts.{IsStarted, IsCallPacket, IsSent, IsWorker, IsAdmitted, IsRan, Remembers, running, RunsElsewhere, AreApart, Inv}
+use Rattle.once_law.proofs.Parts.{IsStarted, IsOnePiece, IsCallPacket, IsSent, IsWorker, IsAdmitted, IsRan, Remembers, running, RunsElsewhere, AreApart, Inv}
+use Rattle.once_law.proofs.Framing.{reply_framed}
 use Rattle.once_law.proofs.Growth.{more_runs, IsSent-more_runs, IsWorker-more_runs, IsWorker-other_entries}
 use Rattle.rpc_header.specs.declared.Activity.{Activity}
 use Rattle.call_rules.specs.Packet.{Packet, Fields, piece_size}
@@ -121,15 +122,15 @@ Inv-admit cs es ws ready bag starts journal returns i v p e h ev ee hp free =
     no_run r c same = let l = remembers r c (ap (λ k. k.activity) same) in absurd (omega (arith, ap (λ k. k.number) same))
 
 -- the body runs
-pub Inv-run : (cs : List Client) (es : List Entry) (ws : List Worker) (ready bag : List Packet) (starts : List Start) (journal : List Run) (returns : List Return) (i : ℕ) (p : Packet) (answer : Answer) (e : Entry) → Inv cs es ws ready bag starts journal returns → numbered 1 ws i ≡ Some (Admitted p) → entry_at es p.header.call.activity ≡ Some e → length answer.reply ≤ piece_size → Inv cs (with_entry es p.header.call.activity e) (with_numbered 1 ws i (Ran p answer)) ready bag starts (journal ++ run_of p answer ∷ []) returns
-Inv-run cs es ws ready bag starts journal returns i p answer e h ev ee fits =
+pub Inv-run : (cs : List Client) (es : List Entry) (ws : List Worker) (ready bag : List Packet) (starts : List Start) (journal : List Run) (returns : List Return) (i : ℕ) (p : Packet) (answer : Answer) (e : Entry) → Inv cs es ws ready bag starts journal returns → numbered 1 ws i ≡ Some (Admitted p) → entry_at es p.header.call.activity ≡ Some e → IsOnePiece answer.reply → Inv cs (with_entry es p.header.call.activity e) (with_numbered 1 ws i (Ran p answer)) ready bag starts (journal ++ run_of p answer ∷ []) returns
+Inv-run cs es ws ready bag starts journal returns i p answer e h ev ee one =
     record {
       lines = h.lines;
       entry_count = length-with_entry es p.header.call.activity e ∙ h.entry_count;
       works = numbered_set (λ k x. IsWorker starts (journal ++ r ∷ []) after x) 1 ws i (Ran p answer) low
           (λ k x f ne. IsWorker-other_entries starts (journal ++ r ∷ []) es after x (λ q hq y g. kept q.header.call.activity y g)
           (IsWorker-more_runs starts journal r es x (h.apart i k (Admitted p) x ev f (λ same. ne (sym same)) p refl) (h.works k x f)))
-          (record { packet = own.packet; has_running = λ x g. own.has_running x (kept p.header.call.activity x g); has_run = Contains-push journal r; fits = fits });
+          (record { packet = own.packet; has_running = λ x g. own.has_running x (kept p.header.call.activity x g); has_run = Contains-push journal r; one_piece = one });
       apart = AreApart-set ws i (Ran p answer) low h.apart (λ j u g ne. h.apart i j (Admitted p) u ev g (λ same. ne (sym same)));
       waits = h.waits;
       sent = λ q g. IsSent-more_runs starts journal r q (h.sent q g);
@@ -175,7 +176,9 @@ Inv-reply cs es ws ready bag starts journal returns i p answer e h ev ee =
             to_client = λ ne. record {
               signal = answer.signal;
               same_kind = refl;
-              has_run = record { run = run_of p answer; is_listed = own.has_run; same_call = refl; same_signal = refl; same_reply = sym (take_short piece_size answer.reply own.fits) };
+              names_receiver = own.packet.names_sender;
+              has_run = record { run = run_of p answer; is_listed = own.has_run; same_call = refl; same_signal = refl; same_reply = sym (take_short piece_size answer.reply own.one_piece.fits) };
+              framed = reply_framed p answer own.packet.framed own.one_piece;
             };
           });
       remembered = λ r c x g. entries_set (λ b y. b ≡ r.call.activity → Remembers y r.call.number) es p.header.call.activity done

@@ -1,3 +1,5 @@
+pub mod Arrival
+pub mod Examples
 pub mod Lines
 pub mod Once
 pub mod Record

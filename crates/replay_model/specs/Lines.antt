@@ -3,7 +3,11 @@ use Rattle.std.specs.Prelude.{ℕ, zero, suc, ◌+◌, ◌*◌, ◌/◌, ◌%◌
 use Rattle.std.specs.List.{flat_map}
 use Rattle.std.specs.Fmt.{decimal, digit_glyph}
 use Rattle.lane_checksum.specs.PlainSum.{csum}
+use Rattle.udp_frames.specs.declared.fault.FrameFault.{FrameFault}
+use Rattle.udp_frames.specs.declared.fault.FrameFault.TheVariants as frame_fault
 use Rattle.rpc_header.specs.declared.Activity.{Activity}
+use Rattle.rpc_header.specs.declared.HeaderFault.{HeaderFault}
+use Rattle.rpc_header.specs.declared.HeaderFault.TheVariants as header_fault
 use Rattle.rpc_header.specs.declared.Kind.{Kind}
 use Rattle.rpc_header.specs.declared.Kind.TheVariants as kind
 use Rattle.call_rules.specs.Packet.{Call, Fields, Packet}
@@ -75,7 +79,8 @@ packet_text k p =
 -- a procedure by its name, where the test service has it
 abbrev pub procedure_text : ℕ → List ℕ
 procedure_text zero = codes "null"
-procedure_text (suc n) = decimal (suc n)
+procedure_text (suc zero) = codes "add"
+procedure_text (suc (suc n)) = decimal (suc (suc n))
 
 -- a signal by its number behind a mark
 abbrev pub reply_text : Bool → List ℕ → List ℕ
@@ -124,15 +129,53 @@ did_text n worker.Runs = codes "runs " ++ decimal n
 did_text n worker.Replies = codes "replies " ++ decimal n
 did_text n (worker.Drops why) = codes "drops " ++ unfit_text why
 
+abbrev pub frame_fault_text : FrameFault → List ℕ
+frame_fault_text frame_fault.Short = codes "Short"
+frame_fault_text frame_fault.NotForUs = codes "NotForUs"
+frame_fault_text frame_fault.NotIp = codes "NotIp"
+frame_fault_text frame_fault.Version = codes "Version"
+frame_fault_text frame_fault.Options = codes "Options"
+frame_fault_text frame_fault.IpLength = codes "IpLength"
+frame_fault_text frame_fault.IpFragment = codes "IpFragment"
+frame_fault_text frame_fault.NotUdp = codes "NotUdp"
+frame_fault_text frame_fault.IpChecksum = codes "IpChecksum"
+frame_fault_text frame_fault.Address = codes "Address"
+frame_fault_text frame_fault.Port = codes "Port"
+frame_fault_text frame_fault.UdpLength = codes "UdpLength"
+frame_fault_text frame_fault.NoChecksum = codes "NoChecksum"
+frame_fault_text frame_fault.UdpChecksum = codes "UdpChecksum"
+
+abbrev pub header_fault_text : HeaderFault → List ℕ
+header_fault_text header_fault.Short = codes "Short"
+header_fault_text header_fault.Version = codes "Version"
+header_fault_text header_fault.Kind = codes "Kind"
+header_fault_text header_fault.Flags = codes "Flags"
+header_fault_text header_fault.Reason = codes "Reason"
+header_fault_text header_fault.Length = codes "Length"
+header_fault_text header_fault.Reserved = codes "Reserved"
+header_fault_text header_fault.ShortFragment = codes "ShortFragment"
+header_fault_text header_fault.FragmentNumber = codes "FragmentNumber"
+
 abbrev pub discard_text : Discard → List ℕ
+discard_text (act.BadFrame fault) = codes "frame " ++ frame_fault_text fault
+discard_text (act.BadHeader fault) = codes "header " ++ header_fault_text fault
+discard_text act.WrongKind = codes "Kind"
+discard_text act.Foreign = codes "Foreign"
+discard_text act.NoBuffer = codes "NoBuffer"
 discard_text act.NoRoom = codes "NoRoom"
 discard_text act.NoCell = codes "NoCell"
 discard_text act.Stale = codes "Stale"
+discard_text act.Taken = codes "Taken"
+discard_text act.Lost = codes "Lost"
 discard_text act.Unused = codes "Unused"
 
 abbrev pub return_line : Call → Bool → List ℕ → List ℕ
 return_line call false reply = codes "returned " ++ call_text call ++ blank ++ bytes_text reply ++ newline
 return_line call true reply = codes "signalled " ++ call_text call ++ blank ++ decimal (exception_number reply) ++ newline
+
+-- a frame by its length and its bytes
+abbrev pub frame_line : ℕ → List ℕ → List ℕ
+frame_line k bytes = codes "frame " ++ decimal k ++ blank ++ decimal (length bytes) ++ blank ++ hex bytes ++ newline
 
 -- the lines of one thing that happens
 abbrev pub lines_of_act : Act → List ℕ
@@ -144,9 +187,10 @@ lines_of_act (act.Readies k) = codes "ready " ++ decimal k ++ newline
 lines_of_act (act.Hears a k) = []
 lines_of_act (act.Returns r) = return_line r.call r.signal r.reply
 lines_of_act (act.Discards why) = codes "drop " ++ discard_text why ++ newline
-lines_of_act (act.Rests number) = codes "worker " ++ decimal number ++ codes " idle" ++ newline
+lines_of_act (act.Idles number) = codes "worker " ++ decimal number ++ codes " idle" ++ newline
 lines_of_act (act.Works number n did) = codes "worker " ++ decimal number ++ blank ++ did_text n did ++ newline
 lines_of_act (act.HasRun run) = []
+lines_of_act (act.Shows k bytes) = frame_line k bytes
 lines_of_act (act.ListsRuns runs) = journal_lines runs
 lines_of_act (act.Ends counts) = end_line counts
 

@@ -3,6 +3,8 @@
 use Rattle.std.specs.Prelude.{ℕ, List, [], ◌∷◌, ◌++◌, length, filter, Option, Bool, true, false, not, ◌==◌, if◌then◌else◌}
 use Rattle.rpc_header.specs.declared.Activity.{Activity}
 use Rattle.rpc_header.specs.declared.Export.{Export}
+use Rattle.rpc_header.specs.declared.HeaderFault.{HeaderFault}
+use Rattle.udp_frames.specs.declared.fault.FrameFault.{FrameFault}
 use Rattle.call_rules.specs.Packet.{Call, Packet}
 use Rattle.call_rules.specs.Worker.{Run, Did}
 
@@ -83,11 +85,26 @@ counts_of r =
       refused = length (filter (λ (f : Failure). not (is_unanswered f.cause)) r.failures);
     }
 
--- why a delivery ends without a packet handed on
+-- why a delivery ends without a packet handed on, in the order in which this is looked for
 pub data Discard : Type 0 where
+  BadFrame : FrameFault → Discard
+  BadHeader : HeaderFault → Discard
+  -- a kind that the receiver doesn't take
+  WrongKind : Discard
+  -- the header names another machine than the sender, at a client another than this
+  Foreign : Discard
+  -- no buffer is free
+  NoBuffer : Discard
+  -- the server's list of ready packets is full
   NoRoom : Discard
+  -- the hint names no cell
   NoCell : Discard
+  -- the cell waits for no packet of this call
   Stale : Discard
+  -- the cell holds one already, or was changed meanwhile
+  Taken : Discard
+  Lost : Discard
+  -- the caller's rules have no row for the packet
   Unused : Discard
 
 -- one thing that happens in an event
@@ -105,10 +122,12 @@ pub data Act : Type 0 where
   Returns : Return → Act
   Discards : Discard → Act
   -- a worker finds nothing to do, or does one step for a call of this number
-  Rests : (worker : ℕ) → Act
+  Idles : (worker : ℕ) → Act
   Works : (worker : ℕ) → (number : ℕ) → Did → Act
   -- a body has run
   HasRun : Run → Act
+  -- the frame of a packet is printed
+  Shows : (number : ℕ) → (bytes : List ℕ) → Act
   ListsRuns : List Run → Act
   Ends : Counts → Act
 

@@ -1,6 +1,8 @@
 -- The test service: what its procedures answer, by their numbers.
-use Rattle.std.specs.Prelude.{ℕ, zero, suc, List, [], ◌∷◌, true, false}
+use Rattle.std.specs.Prelude.{ℕ, zero, suc, ◌+◌, List, [], ◌∷◌, ◌++◌, length, drop, true, false, ◌==◌, nat_le, if◌then◌else◌}
+use Rattle.byteorder.specs.Endian.{big_bytes, big_number}
 use Rattle.call_rules.specs.Worker.{Answer}
+use Rattle.replay_model.specs.Script.{largest_number}
 use Rattle.replay_model.specs.declared.event.CallWord.{CallWord}
 use Rattle.replay_model.specs.declared.event.CallWord.TheVariants as word
 
@@ -9,12 +11,14 @@ pub record Served : Type 0 where
   pub answer : Answer
   pub total : ℕ
 
--- the number and the marshalled arguments of a call
+-- the number and the marshalled arguments of a call; a number is marshalled as 4 bytes, the highest first
 abbrev pub procedure_of : CallWord → ℕ
 procedure_of word.Null = 0
+procedure_of (word.Add a b) = 1
 
 abbrev pub arguments_of : CallWord → List ℕ
 arguments_of word.Null = []
+arguments_of (word.Add a b) = big_bytes 4 a ++ big_bytes 4 b
 
 abbrev pub replies : ℕ → List ℕ → Served
 replies total reply = record { answer = record { signal = false; reply = reply }; total = total }
@@ -23,8 +27,13 @@ replies total reply = record { answer = record { signal = false; reply = reply }
 abbrev pub raises : ℕ → ℕ → Served
 raises total exception = record { answer = record { signal = true; reply = 0 ∷ exception ∷ [] }; total = total }
 
+-- a sum, or the exception of one that is too large
+abbrev pub adds : (total a b : ℕ) → Served
+adds total a b = if nat_le (a + b) largest_number then replies total (big_bytes 4 (a + b)) else raises total 1
+
 -- the answer to a procedure and its arguments, by the total; arguments that can't be read raise 0
 abbrev pub served : (total procedure : ℕ) → List ℕ → Served
-served total zero [] = replies total []
-served total zero (b ∷ bytes) = raises total 0
-served total (suc other) bytes = raises total 0
+served total zero bytes = if length bytes == 0 then replies total [] else raises total 0
+served total (suc zero) bytes =
+    if length bytes == 8 then adds total (big_number 4 bytes) (big_number 4 (drop 4 bytes)) else raises total 0
+served total (suc (suc other)) bytes = raises total 0

@@ -1,6 +1,7 @@
 -- The step of each event: the world after it, and what happens in it. An impossible event leaves the world
 -- as it is.
-use Rattle.std.specs.Prelude.{ℕ, ◌+◌, List, [], ◌∷◌, ◌++◌, length, Option, Some, None, unwrap_or, ◌==◌, nat_lt, nat_le, if◌then◌else◌}
+use Rattle.std.specs.Prelude.{ℕ, ◌+◌, ◌*◌, List, [], ◌∷◌, ◌++◌, length, Option, Some, None, unwrap_or, ◌==◌, nat_lt, nat_le, if◌then◌else◌}
+use Rattle.udp_frames.specs.Damage.{flipped}
 use Rattle.call_rules.specs.Packet.{Packet}
 use Rattle.call_rules.specs.Entry.{Entry, Empty}
 use Rattle.call_rules.specs.Caller as caller
@@ -10,7 +11,8 @@ use Rattle.replay_model.specs.declared.event.CallWord.{CallWord}
 use Rattle.replay_model.specs.declared.event.Event.{Event}
 use Rattle.replay_model.specs.declared.event.Event.TheVariants as event
 use Rattle.replay_model.specs.Service.{Served, served, procedure_of, arguments_of}
-use Rattle.replay_model.specs.Record.{Act, Impossible, Starts, TooFast, Sends, Readies, Hears, Returns, Discards, Discard, NoRoom, NoCell, Stale, Unused, Rests, Works, HasRun, ListsRuns, Ends, counts_of, recorded_all, server_machine}
+use Rattle.replay_model.specs.Record.{Act, Impossible, Starts, TooFast, Sends, Readies, Hears, Returns, Discards, Discard, NoRoom, NoCell, Stale, Unused, Idles, Works, HasRun, Shows, ListsRuns, Ends, counts_of, recorded_all, server_machine}
+use Rattle.replay_model.specs.Arrival.{Arrival, Comes, Dropped, arrives, frame_of}
 use Rattle.replay_model.specs.World.{World, Client, Line, numbered, with_numbered, packet_at, first_client, entry_at, with_entry, number_limit}
 
 -- what an event does: the world after it but for its records, and what happens
@@ -111,10 +113,32 @@ unfoldable pub client_takes : World → (number : ℕ) → Packet → Option Cli
 client_takes w k p None = discarded w NoCell
 client_takes w k p (Some c) = line_takes w k p c (numbered 1 c.lines (p.header.hint + 1))
 
+-- packet k has come to its receiver
+unfoldable pub machine_takes : World → (number : ℕ) → Packet → Outcome
+machine_takes w k p =
+    if p.to == server_machine then server_takes w k p else client_takes w k p (numbered first_client w.clients p.to)
+
+abbrev pub takes_arrival : World → (number : ℕ) → Arrival → Outcome
+takes_arrival w k (Comes p) = machine_takes w k p
+takes_arrival w k (Dropped why) = discarded w why
+
+-- the bytes of the frame of packet k come to machine `me`
+abbrev pub receives : World → (number me : ℕ) → List ℕ → Outcome
+receives w k me bytes = takes_arrival w k (arrives me bytes)
+
 unfoldable pub deliver_event : World → (number : ℕ) → Option Packet → Outcome
 deliver_event w k None = impossible w
-deliver_event w k (Some p) =
-    if p.to == server_machine then server_takes w k p else client_takes w k p (numbered first_client w.clients p.to)
+deliver_event w k (Some p) = receives w k p.to (frame_of p)
+
+-- the same with one bit flipped, where the frame has that bit
+unfoldable pub damage_event : World → (number bit : ℕ) → Option Packet → Outcome
+damage_event w k bit None = impossible w
+damage_event w k bit (Some p) =
+    if nat_lt bit (8 * length (frame_of p)) then receives w k p.to (flipped (frame_of p) bit) else impossible w
+
+abbrev pub show_event : World → (number : ℕ) → Option Packet → Outcome
+show_event w k None = impossible w
+show_event w k (Some p) = record { world = w; acts = Shows k (frame_of p) ∷ [] }
 
 -- what a worker sends, if it does, with the number that the packet has
 abbrev pub sent : World → List Act → Option Packet → Outcome
@@ -148,9 +172,9 @@ unfoldable pub claims : World → (who : ℕ) → Packet → Option Entry → Ou
 claims w number p None = works w number p (drops Empty Full)
 claims w number p (Some e) = works w number p (on_idle p e)
 
--- an idle worker takes the oldest ready packet; without one, it rests
+-- an idle worker takes the oldest ready packet; without one, it stays idle
 unfoldable pub claims_next : World → (who : ℕ) → List Packet → Outcome
-claims_next w number [] = record { world = w; acts = Rests number ∷ [] }
+claims_next w number [] = record { world = w; acts = Idles number ∷ [] }
 claims_next w number (p ∷ rest) =
     claims (record w { server = record w.server { ready = rest } }) number p (entry_at w.server.entries p.header.call.activity)
 
@@ -174,6 +198,8 @@ end_event w = record { world = w; acts = Ends (counts_of w.records) ∷ [] }
 abbrev pub outcome : World → Event → Outcome
 outcome w (event.Call machine process asked) = call_event w machine process (numbered first_client w.clients machine) asked
 outcome w (event.Deliver k) = deliver_event w k (packet_at w.bag k)
+outcome w (event.Damage k bit) = damage_event w k bit (packet_at w.bag k)
+outcome w (event.Show k) = show_event w k (packet_at w.bag k)
 outcome w (event.Work number) = work_event w number (numbered 1 w.server.workers number)
 outcome w event.Journal = journal_event w
 outcome w event.End = end_event w

@@ -2,12 +2,15 @@
 //! its machines, packets and records, the step of each event, the lines that it prints, and what holds of
 //! the world after any events.
 //!
-//! The definitions stand in `specs/`, for contracts to cite. The types of an event stand here.
+//! The definitions stand in `specs/`, for contracts to cite. The types of an event stand here, and laws over
+//! the definitions: the contract of each is the law, and its body is empty or only calls laws that it rests on.
 #![tactic(auto)]
 
 mod event;
+mod laws;
 
-pub use event::{CallWord, Event};
+pub use event::{ADD, CallWord, Event, NULL};
+pub use laws::fields_are_a_header;
 
 #[cfg(test)]
 mod tests;

@@ -1,9 +1,14 @@
 //! Worked rows, computed over the definitions. What each function ensures is a row; its test calls it.
 
-ghost use Rattle.std.specs.Prelude.{◌≡◌, ◌++◌, List, ℕ, [], ◌∷◌, codes};
+ghost use Rattle.std.specs.Prelude.{◌≡◌, ◌++◌, [], ◌∷◌, codes, true, false};
+ghost use Rattle.rpc_header.specs.declared.Kind.TheVariants as kind;
 ghost use Rattle.replay_model.specs.declared.event.CallWord.TheVariants as word;
 ghost use Rattle.replay_model.specs.declared.event.Event.TheVariants as event;
+ghost use Rattle.replay_model.specs.Arrival.{Comes, Dropped, arrival_of};
 ghost use Rattle.replay_model.specs.Lines.{newline};
+ghost use Rattle.replay_model.specs.Record.{WrongKind, Foreign};
+ghost use Rattle.replay_model.specs.Service.{served};
+ghost use Rattle.replay_model.specs.Examples.{packet_from};
 ghost use Rattle.replay_model.specs.Transcript.{transcript};
 
 fn lines_of_the_empty_call()
@@ -91,6 +96,77 @@ fn lines_of_nothing()
         ++ codes "end runs 0 returned 0 signalled 0 failed 0 refused 0" ++ newline }
 {}
 
+/// An exception: a sum that is too large.
+fn lines_of_an_exception()
+    ensures { transcript (record {
+      small = 256;
+      long = 72;
+      events =
+          event.Call 2 1 (word.Add 4294967295 1) ∷ event.Deliver 1 ∷ event.Work 1 ∷ event.Work 1 ∷ event.Work 1 ∷ event.Work 1 ∷ event.Deliver 2 ∷ event.Journal ∷ event.End ∷ [];
+    })
+        ≡ codes "start 2.1 65536" ++ newline ++ codes "packet 1 2>1 call 65536/0 -l 8" ++ newline ++ codes "ready 1" ++ newline
+        ++ codes "worker 1 claims 65536" ++ newline ++ codes "worker 1 admits 65536" ++ newline ++ codes "worker 1 runs 65536" ++ newline
+        ++ codes "worker 1 replies 65536" ++ newline ++ codes "packet 2 1>2 signal 65536/0 -l 2" ++ newline ++ codes "signalled 2.1 65536 1" ++ newline
+        ++ codes "run 1 2.1 65536 add 8:ffffffff00000001 -> !1" ++ newline ++ codes "end runs 1 returned 0 signalled 1 failed 0 refused 0" ++ newline }
+{}
+
+/// A frame that is shown, and whose checksum comes out as 0.
+fn lines_of_a_checksum_of_zero()
+    ensures { transcript (record {
+      small = 256;
+      long = 72;
+      events =
+          event.Call 2 1 (word.Add 51510 0) ∷ event.Show 1 ∷ event.Deliver 1 ∷ event.Work 1 ∷ event.Work 1 ∷ event.Work 1 ∷ event.Work 1 ∷ event.Deliver 2 ∷ event.Journal ∷ [];
+    })
+        ≡ codes "start 2.1 65536" ++ newline ++ codes "packet 1 2>1 call 65536/0 -l 8" ++ newline
+        ++ codes "frame 1 82 02000a00000102000a00000208004500004400000000401166a70a0000020a0000010fa30fa30030ffff01010200000000020001000000000001000000000000000100000001000800000000c93600000000" ++ newline
+        ++ codes "ready 1" ++ newline
+        ++ codes "worker 1 claims 65536" ++ newline ++ codes "worker 1 admits 65536" ++ newline ++ codes "worker 1 runs 65536" ++ newline
+        ++ codes "worker 1 replies 65536" ++ newline ++ codes "packet 2 1>2 result 65536/0 -l 4" ++ newline ++ codes "returned 2.1 65536 4:0000c936" ++ newline
+        ++ codes "run 1 2.1 65536 add 8:0000c93600000000 -> 4:0000c936" ++ newline }
+{}
+
+/// One flipped bit of the empty call's frame: most are refused, those of the Ethernet source change nothing.
+fn lines_of_damages()
+    ensures { transcript (record {
+      small = 256;
+      long = 72;
+      events =
+          event.Call 2 1 word.Null ∷ event.Damage 1 0 ∷ event.Damage 1 48 ∷ event.Damage 1 95 ∷ event.Damage 1 96 ∷ event.Damage 1 112 ∷ event.Damage 1 116
+          ∷ event.Damage 1 128 ∷ event.Damage 1 160 ∷ event.Damage 1 161 ∷ event.Damage 1 184 ∷ event.Damage 1 272 ∷ event.Damage 1 304 ∷ event.Damage 1 320
+          ∷ event.Damage 1 591 ∷ event.Damage 1 592 ∷ event.Damage 2 0 ∷ event.Show 2 ∷ [];
+    })
+        ≡ codes "start 2.1 65536" ++ newline ++ codes "packet 1 2>1 call 65536/0 -l 0" ++ newline
+        ++ codes "drop frame NotForUs" ++ newline ++ codes "ready 1" ++ newline ++ codes "ready 1" ++ newline ++ codes "drop frame NotIp" ++ newline
+        ++ codes "drop frame Version" ++ newline ++ codes "drop frame Options" ++ newline ++ codes "drop frame IpLength" ++ newline
+        ++ codes "drop frame IpFragment" ++ newline ++ codes "drop frame IpChecksum" ++ newline ++ codes "drop frame NotUdp" ++ newline
+        ++ codes "drop frame Port" ++ newline ++ codes "drop frame UdpLength" ++ newline ++ codes "drop frame UdpChecksum" ++ newline
+        ++ codes "drop frame UdpChecksum" ++ newline ++ codes "impossible" ++ newline ++ codes "impossible" ++ newline ++ codes "impossible" ++ newline }
+{}
+
+/// What the procedures answer to bytes: a sum, the largest one, one that is too large, and bytes that can't be read.
+fn answers_of_the_service()
+    ensures sum { served 7 1 (0 ∷ 0 ∷ 0 ∷ 1 ∷ 0 ∷ 0 ∷ 1 ∷ 2 ∷ []) ≡ record { answer = record { signal = false; reply = 0 ∷ 0 ∷ 1 ∷ 3 ∷ [] }; total = 7 } }
+    ensures largest { served 7 1 (255 ∷ 255 ∷ 255 ∷ 254 ∷ 0 ∷ 0 ∷ 0 ∷ 1 ∷ []) ≡ record { answer = record { signal = false; reply = 255 ∷ 255 ∷ 255 ∷ 255 ∷ [] }; total = 7 } }
+    ensures too_large { served 7 1 (255 ∷ 255 ∷ 255 ∷ 255 ∷ 0 ∷ 0 ∷ 0 ∷ 1 ∷ []) ≡ record { answer = record { signal = true; reply = 0 ∷ 1 ∷ [] }; total = 7 } }
+    ensures seven_bytes { served 7 1 (0 ∷ 0 ∷ 0 ∷ 1 ∷ 0 ∷ 0 ∷ 0 ∷ []) ≡ record { answer = record { signal = true; reply = 0 ∷ 0 ∷ [] }; total = 7 } }
+    ensures nine_bytes { served 7 1 (0 ∷ 0 ∷ 0 ∷ 1 ∷ 0 ∷ 0 ∷ 0 ∷ 2 ∷ 0 ∷ []) ≡ record { answer = record { signal = true; reply = 0 ∷ 0 ∷ [] }; total = 7 } }
+    ensures nothing { served 7 0 [] ≡ record { answer = record { signal = false; reply = [] }; total = 7 } }
+    ensures one_byte { served 7 0 (0 ∷ []) ≡ record { answer = record { signal = true; reply = 0 ∷ 0 ∷ [] }; total = 7 } }
+{}
+
+/// Which packets a machine takes, and whose: a Kind counts before the machine that the header names.
+fn arrivals_by_kind_and_machine()
+    ensures result_at_server { arrival_of 1 (packet_from 2 1 kind.Result 2) ≡ Dropped WrongKind }
+    ensures call_at_client { arrival_of 2 (packet_from 1 2 kind.Call 2) ≡ Dropped WrongKind }
+    ensures foreign_call { arrival_of 1 (packet_from 3 1 kind.Call 2) ≡ Dropped Foreign }
+    ensures foreign_result { arrival_of 3 (packet_from 1 3 kind.Result 2) ≡ Dropped Foreign }
+    ensures kind_first { arrival_of 1 (packet_from 3 1 kind.Result 2) ≡ Dropped WrongKind }
+    ensures call { arrival_of 1 (packet_from 2 1 kind.Call 2) ≡ Comes (packet_from 2 1 kind.Call 2) }
+    ensures ack { arrival_of 2 (packet_from 1 2 kind.Ack 2) ≡ Comes (packet_from 1 2 kind.Ack 2) }
+    ensures signal { arrival_of 2 (packet_from 1 2 kind.Signal 2) ≡ Comes (packet_from 1 2 kind.Signal 2) }
+{}
+
 #[test]
 fn rows_are_computed() {
     lines_of_the_empty_call();
@@ -99,4 +175,9 @@ fn rows_are_computed() {
     lines_of_a_repeated_call();
     lines_of_a_stale_result();
     lines_of_nothing();
+    lines_of_an_exception();
+    lines_of_a_checksum_of_zero();
+    lines_of_damages();
+    answers_of_the_service();
+    arrivals_by_kind_and_machine();
 }

@@ -1,9 +1,7 @@
 pub mod Boot
 pub mod CallerRules
 pub mod ClientSteps
-pub mod DigestLines
 pub mod Numbered
 pub mod PlaySteps
-pub mod Put
 pub mod ServerSteps
 pub mod WorldSteps

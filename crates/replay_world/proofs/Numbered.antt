@@ -1,9 +1,9 @@
 -- Items of lists by their numbers, and entries by their activities.
-use Rattle.std.proofs.Common.{◌≡◌, ℕ, ◌-◌, ◌≤◌, ◌<◌, List, length, Option, Some, None, get_or, set, cond, Bool, true, false, ap, sym, ◌∙◌, refl}
-use Rattle.std.specs.Prelude.{unwrap_or, slice_get}
+use Rattle.std.proofs.Common.{◌≡◌, ℕ, zero, suc, ◌-◌, ◌≤◌, ◌<◌, List, [], ◌∷◌, length, map, Option, Some, None, get_or, set, cond, Bool, true, false, ap, sym, ◌∙◌, refl, arith}
+use Rattle.std.specs.Prelude.{unwrap_or, slice_get, option_map}
 use Rattle.std.proofs.lemmas.List.{set-get_or}
 use Rattle.std.proofs.lemmas.Bool.{le-ltb, lt-ltb, cond-true, cond-false}
-use Rattle.std.proofs.lemmas.Option.{slice_get_past, slice_get-get_or, unwrap_or-slice_get}
+use Rattle.std.proofs.lemmas.Option.{slice_get_past, slice_get-get_or, slice_get-map, same_Some, unwrap_or-slice_get}
 use Rattle.rpc_header.specs.declared.Activity.{Activity}
 use Rattle.call_rules.specs.Entry.{Entry, Empty}
 use Rattle.replay_model.specs.World.{numbered, is_entry_activity, entry_place, entry_at, with_entry}
@@ -35,3 +35,18 @@ with_entry-same es a o h = ap (λ (p : Option Entry). with_entry es a (unwrap_or
 -- a number below the first
 pub numbered-low : {A : Type 0} (from : ℕ) (xs : List A) (n : ℕ) → n < from → numbered from xs n ≡ None
 numbered-low {A} from xs n low = cond-true _ _ _ (lt-ltb n from low)
+
+item : {A : Type 0} (xs : List A) (k : ℕ) → k < length xs → (x : A) × (slice_get xs k ≡ Some x)
+item [] k h = absurd (omega arith)
+item (x ∷ xs) zero h = (x, refl)
+item (x ∷ xs) (suc k) h = item xs k (omega arith)
+
+-- the item of a number, and what a list has of it that was made of each item
+pub numbered-mapped : {A B : Type 0} (f : A → B) (from : ℕ) (xs : List A) (n : ℕ) → from ≤ n → n - from < length xs → (x : A) × (numbered from xs n ≡ Some x) × ((y : B) → numbered from (map f xs) n ≡ Some y → f x ≡ y)
+numbered-mapped {A} {B} f from xs n low within =
+    let found = item xs (n - from) within in (
+      found.0,
+      cond-false _ _ _ (le-ltb n from low) ∙ found.1,
+      λ y h. same_Some (f found.0) y
+          (sym (slice_get-map f xs (n - from) ∙ ap (λ (o : Option A). option_map f o) found.1) ∙ (sym (cond-false _ _ _ (le-ltb n from low)) ∙ h)),
+    )

@@ -66,7 +66,7 @@ steps_work w sx s0 s1 i p step x1 (worked.Step n d) h =
     ∙ (ap (λ (m : ℕ). record { world = record w { server = record s1 { workers = set s1.workers (i - 1) x1 } }; acts = Works i m step.did ∷ [] }) (sym h.step_is.0)
     ∙ ap (λ (m : rules.Did). record { world = record w { server = record s1 { workers = set s1.workers (i - 1) x1 } }; acts = Works i n m ∷ [] }) (sym h.step_is.1)))
 steps_work w sx s0 s1 i p step x1 worked.Impossible h = absurd h.step_is
-steps_work w sx s0 s1 i p step x1 worked.Rests h = absurd h.step_is
+steps_work w sx s0 s1 i p step x1 worked.Idle h = absurd h.step_is
 steps_work w sx s0 s1 i p step x1 (worked.Runs line) h = absurd h.step_is
 steps_work w sx s0 s1 i p step x1 (worked.Replies q) h = absurd h.step_is
 
@@ -96,7 +96,7 @@ body_works w s0 s1 i p x1 (worked.Runs line) h =
           ∙ ap (λ (t : Server). record { world = record w { server = t }; acts = Works i p.header.call.number rules.Runs ∷ HasRun (run_of p s.answer) ∷ [] }) (put_back s0 s1 (i - 1) s0.entries s.total (rules.Ran p s.answer) x1 h.worker h.server),
     )
 body_works w s0 s1 i p x1 worked.Impossible h = absurd h.run_is
-body_works w s0 s1 i p x1 worked.Rests h = absurd h.run_is
+body_works w s0 s1 i p x1 worked.Idle h = absurd h.run_is
 body_works w s0 s1 i p x1 (worked.Step n d) h = absurd h.run_is
 body_works w s0 s1 i p x1 (worked.Replies q) h = absurd h.run_is
 
@@ -126,14 +126,14 @@ work_event-none w i o h = ap (work_event w i) h
 steps_idle : (step : Step) (p : Packet) (a b old new : Server) (x1 : rules.Worker) (did : Worked) → Steps step p a b x1 did → KeepsIdle did old new
 steps_idle step p a b old new x1 (worked.Step n d) h = tt
 steps_idle step p a b old new x1 worked.Impossible h = absurd h.step_is
-steps_idle step p a b old new x1 worked.Rests h = absurd h.step_is
+steps_idle step p a b old new x1 worked.Idle h = absurd h.step_is
 steps_idle step p a b old new x1 (worked.Runs line) h = absurd h.step_is
 steps_idle step p a b old new x1 (worked.Replies q) h = absurd h.step_is
 
 body_idle : (p : Packet) (a b old new : Server) (x1 : rules.Worker) (did : Worked) → RunsBody p a b x1 did → KeepsIdle did old new
 body_idle p a b old new x1 (worked.Runs line) h = tt
 body_idle p a b old new x1 worked.Impossible h = absurd h.run_is
-body_idle p a b old new x1 worked.Rests h = absurd h.run_is
+body_idle p a b old new x1 worked.Idle h = absurd h.run_is
 body_idle p a b old new x1 (worked.Step n d) h = absurd h.run_is
 body_idle p a b old new x1 (worked.Replies q) h = absurd h.run_is
 

@@ -1,16 +1,19 @@
 -- The events of the model by the parts of its world.
-use Rattle.std.proofs.Common.{◌≡◌, ℕ, ◌-◌, List, [], ◌∷◌, ◌++◌, length, Option, Some, None, true, false, get_or, set, ap, sym, ◌∙◌}
-use Rattle.std.specs.Prelude.{◌==◌, nat_lt}
-use Rattle.std.proofs.lemmas.Bool.{cond-true, cond-false}
+use Rattle.std.proofs.Common.{◌≡◌, ℕ, ◌-◌, ◌*◌, ◌≤◌, ◌<◌, List, [], ◌∷◌, ◌++◌, length, Option, Some, None, true, false, get_or, set, ap, sym, ◌∙◌}
+use Rattle.std.specs.Prelude.{nat_lt}
+use Rattle.std.proofs.lemmas.Bool.{cond-true, cond-false, eq-eqb, ne_eqb, le-ltb, lt-ltb}
+use Rattle.udp_frames.specs.Damage.{flipped}
 use Rattle.call_rules.specs.Packet.{Packet}
 use Rattle.replay_model.specs.declared.event.CallWord.{CallWord}
-use Rattle.replay_model.specs.Record.{Counts, NoCell, NoRoom, Stale, Unused, Readies, counts_of, no_records, server_machine}
+use Rattle.replay_model.specs.Record.{Counts, NoCell, NoRoom, Stale, Unused, Readies, Shows, counts_of, no_records, server_machine}
 use Rattle.replay_model.specs.World.{World, Server, Client, numbered, first_client, booted_server, first_world}
-use Rattle.replay_model.specs.Step.{impossible, discarded, call_by, call_event, server_takes, ready_cells, client_takes, deliver_event}
+use Rattle.replay_model.specs.Arrival.{frame_of}
+use Rattle.replay_model.specs.Step.{impossible, discarded, call_by, call_event, server_takes, ready_cells, client_takes, machine_takes, receives, deliver_event, damage_event, show_event}
 use Rattle.replay_world.specs.declared.client.Took.{Took}
 use Rattle.replay_world.specs.declared.client.Took.TheVariants as took
 use Rattle.replay_world.specs.Client.{took_outcome, took_in, KeepsMissed}
-use Rattle.replay_world.specs.Digests.{RunDigest}
+use Rattle.replay_lines.specs.Digests.{RunDigest}
+use Rattle.replay_packets.specs.Sent.{SentFrame}
 use Rattle.replay_world.specs.Stands.{Stands}
 use Rattle.replay_world.proofs.Numbered.{set-same}
 
@@ -26,13 +29,35 @@ pub deliver_event-none : (w : World) (k : ℕ) (o : Option Packet) → o ≡ Non
 unfolding deliver_event
 deliver_event-none w k o h = ap (deliver_event w k) h
 
-pub deliver_event-server : (w : World) (k : ℕ) (o : Option Packet) (p : Packet) → o ≡ Some p → (p.to == server_machine) ≡ true → deliver_event w k o ≡ server_takes w k p
+pub deliver_event-some : (w : World) (k : ℕ) (o : Option Packet) (p : Packet) → o ≡ Some p → deliver_event w k o ≡ receives w k p.to (frame_of p)
 unfolding deliver_event
-deliver_event-server w k o p h to = ap (deliver_event w k) h ∙ cond-true _ _ _ to
+deliver_event-some w k o p h = ap (deliver_event w k) h
 
-pub deliver_event-client : (w : World) (k : ℕ) (o : Option Packet) (p : Packet) → o ≡ Some p → (p.to == server_machine) ≡ false → deliver_event w k o ≡ client_takes w k p (numbered first_client w.clients p.to)
-unfolding deliver_event
-deliver_event-client w k o p h to = ap (deliver_event w k) h ∙ cond-false _ _ _ to
+pub damage_event-none : (w : World) (k bit : ℕ) (o : Option Packet) → o ≡ None → damage_event w k bit o ≡ impossible w
+unfolding damage_event
+damage_event-none w k bit o h = ap (damage_event w k bit) h
+
+pub damage_event-within : (w : World) (k bit : ℕ) (o : Option Packet) (p : Packet) → o ≡ Some p → bit < 8 * length (frame_of p) → damage_event w k bit o ≡ receives w k p.to (flipped (frame_of p) bit)
+unfolding damage_event
+damage_event-within w k bit o p h l = ap (damage_event w k bit) h ∙ cond-true _ _ _ (lt-ltb bit (8 * length (frame_of p)) l)
+
+pub damage_event-past : (w : World) (k bit : ℕ) (o : Option Packet) (p : Packet) → o ≡ Some p → 8 * length (frame_of p) ≤ bit → damage_event w k bit o ≡ impossible w
+unfolding damage_event
+damage_event-past w k bit o p h l = ap (damage_event w k bit) h ∙ cond-false _ _ _ (le-ltb bit (8 * length (frame_of p)) l)
+
+pub show_event-none : (w : World) (k : ℕ) (o : Option Packet) → o ≡ None → show_event w k o ≡ impossible w
+show_event-none w k o h = ap (show_event w k) h
+
+pub show_event-some : (w : World) (k : ℕ) (o : Option Packet) (p : Packet) → o ≡ Some p → show_event w k o ≡ record { world = w; acts = Shows k (frame_of p) ∷ [] }
+show_event-some w k o p h = ap (show_event w k) h
+
+pub machine_takes-server : (w : World) (k : ℕ) (p : Packet) → p.to ≡ server_machine → machine_takes w k p ≡ server_takes w k p
+unfolding machine_takes
+machine_takes-server w k p to = cond-true _ _ _ (eq-eqb p.to server_machine to)
+
+pub machine_takes-client : (w : World) (k : ℕ) (p : Packet) → (p.to ≡ server_machine → ⊥) → machine_takes w k p ≡ client_takes w k p (numbered first_client w.clients p.to)
+unfolding machine_takes
+machine_takes-client w k p to = cond-false _ _ _ (ne_eqb p.to server_machine to)
 
 pub client_takes-nobody : (w : World) (k : ℕ) (p : Packet) (o : Option Client) → o ≡ None → client_takes w k p o ≡ discarded w NoCell
 unfolding client_takes
@@ -58,5 +83,5 @@ pub same_item : {A : Type 0} (o : Option A) (x y : A) → o ≡ Some x → o ≡
 same_item {A} o x y e f = cc
 
 -- what is stored of the first world
-pub first_stored : (small long : ℕ) (server : Server) (clients : List Client) (bag : List Packet) (runs : List RunDigest) (counts : Counts) → server ≡ booted_server small long 1 → clients ≡ (first_world small long).clients → bag ≡ [] → runs ≡ [] → counts ≡ counts_of no_records → Stands (record { second = 1; server = server; clients = clients; bag = bag; runs = runs; counts = counts }) (first_world small long)
+pub first_stored : (small long : ℕ) (server : Server) (clients : List Client) (bag : List SentFrame) (runs : List RunDigest) (counts : Counts) → server ≡ booted_server small long 1 → clients ≡ (first_world small long).clients → bag ≡ [] → runs ≡ [] → counts ≡ counts_of no_records → Stands (record { second = 1; server = server; clients = clients; bag = bag; runs = runs; counts = counts }) (first_world small long)
 first_stored small long server clients bag runs counts e f g h i = record { agrees = cc }

@@ -1,12 +1,9 @@
 pub mod Client
-pub mod Digests
-pub mod Discard
+pub mod Delivery
 pub mod Entry
 pub mod Played
-pub mod Printed
 pub mod Server
 pub mod Service
 pub mod Stands
 pub mod Stored
-pub mod Unfit
 pub mod Worker

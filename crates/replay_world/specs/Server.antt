@@ -4,14 +4,14 @@ use Rattle.call_rules.specs.Packet.{Packet}
 use Rattle.call_rules.specs.Entry.{Entry, Empty}
 use Rattle.call_rules.specs.Worker.{Step, Run, Answer, drops, on_idle, on_claimed, on_ran, run_of, reply_packet, Full}
 use Rattle.call_rules.specs.Worker as rules
-use Rattle.replay_model.specs.Record.{Rests, Works, HasRun, Sends}
+use Rattle.replay_model.specs.Record.{Idles, Works, HasRun, Sends}
 use Rattle.replay_model.specs.World.{World, Server, entry_at, with_entry}
 use Rattle.replay_model.specs.Service.{served}
 use Rattle.replay_model.specs.Step.{Outcome, impossible, with_packet}
 use Rattle.replay_world.specs.declared.server.Worked.{Worked}
 use Rattle.replay_world.specs.declared.server.Worked.TheVariants as worked
-use Rattle.replay_world.specs.Digests.{run_digest}
-use Rattle.replay_world.specs.Worker.{did_of}
+use Rattle.replay_lines.specs.Digests.{run_digest}
+use Rattle.replay_lines.specs.Did.{did_of}
 
 -- the entry of a packet's activity
 abbrev pub entry_in : Server → Packet → Entry
@@ -41,7 +41,7 @@ pub record Steps (step : Step) (p : Packet) (old new : Server) (after : rules.Wo
 
 -- an idle worker's step, by the packets that are ready
 abbrev pub StepsNext : List Packet → (old new : Server) → rules.Worker → Worked → Type 0
-StepsNext [] old new after did = (after ≡ rules.Resting) × (new ≡ old) × (did ≡ worked.Rests)
+StepsNext [] old new after did = (after ≡ rules.Resting) × (new ≡ old) × (did ≡ worked.Idle)
 StepsNext (p ∷ rest) old new after did =
     Steps (claim_step (entry_at old.entries p.header.call.activity) p) p (record old { ready = rest }) new after did
 
@@ -67,7 +67,7 @@ StepsFrom (rules.Ran p answer) old new after did = Replied p answer old new afte
 -- the outcome that a worker's step stands for; s is the server after it
 abbrev pub WorksAs : World → (who : ℕ) → Server → Worked → Outcome → Type 0
 WorksAs w who s worked.Impossible o = o ≡ impossible w
-WorksAs w who s worked.Rests o = o ≡ record { world = w; acts = Rests who ∷ [] }
+WorksAs w who s worked.Idle o = o ≡ record { world = w; acts = Idles who ∷ [] }
 WorksAs w who s (worked.Step n did) o = o ≡ record { world = record w { server = s }; acts = Works who n (did_of did) ∷ [] }
 WorksAs w who s (worked.Runs line) o =
     (run : Run) × (line ≡ run_digest run)
@@ -81,5 +81,5 @@ WorksAs w who s (worked.Replies p) o =
 -- a worker that does nothing changes nothing
 abbrev pub KeepsIdle : Worked → Server → Server → Type 0
 KeepsIdle worked.Impossible old new = new ≡ old
-KeepsIdle worked.Rests old new = new ≡ old
+KeepsIdle worked.Idle old new = new ≡ old
 KeepsIdle _ old new = Unit {0}

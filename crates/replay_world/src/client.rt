@@ -1,16 +1,17 @@
 //! A client machine with its processes.
 
-ghost use Rattle.std.specs.Prelude.{◌≡◌, ℕ, ◌+◌, ◌≤◌, ◌<◌, ◌^◌, Some, IfOk, OnOk, MatchOption};
+ghost use Rattle.std.specs.Prelude.{◌≡◌, ℕ, ◌+◌, ◌≤◌, ◌<◌, Some, IfOk, OnOk, MatchOption};
 ghost use Rattle.call_rules.specs.Caller as rules;
 ghost use Rattle.replay_model.specs.World as model;
 ghost use Rattle.replay_model.specs.World.{World, Client, numbered, number_limit};
 ghost use Rattle.replay_model.specs.Step as step;
 ghost use Rattle.replay_model.specs.Service as service;
 
-use crate::sent::Sent;
 use crate::service::{arguments_of, procedure_of};
 use caller_core::{Action, Caller};
+use ff_io::Station;
 use replay_model::CallWord;
+use replay_packets::{Arrived, Outgoing, SERVER};
 use rpc_header::{Activity, CallNumber, Export, number};
 use script_text::{FIRST_CLIENT, LAST_CLIENT, LAST_PROCESS};
 use std::alloc::{AllocError, Global};
@@ -21,9 +22,6 @@ const FIRST_BINDING: Export = Export {
     identifier: 1,
     index: 0,
 };
-
-/// The machine that clients call.
-pub const SERVER_MACHINE: u8 = 1;
 
 /// How many clients there are.
 pub const CLIENTS: u8 = LAST_CLIENT - FIRST_CLIENT + 1;
@@ -62,7 +60,7 @@ pub enum Called {
     /// The process has used the numbers of this second up, and its next call has this one.
     TooFast(u64),
     /// The call's first packet.
-    Starts(Sent),
+    Starts(Outgoing),
 }
 
 /// What a client does about a packet.
@@ -79,6 +77,7 @@ pub enum Took {
 }
 
 impl ClientLine {
+    ghost use Rattle.replay_packets.specs.Packet.{packet_of};
     ghost use Rattle.replay_world.specs.Client.{started_line, took_outcome, KeepsMissed};
 
     fn boot(alloc: Global, boot: u32, machine: u8, process: u8) -> Self
@@ -121,45 +120,47 @@ impl ClientLine {
     fn start(
         &mut self,
         alloc: Global,
-        machine: u8,
+        me: Station,
         number: CallNumber,
         word: CallWord,
-    ) -> Result<Sent, AllocError>
+    ) -> Result<Outgoing, AllocError>
         requires idle { self.old.caller.state ≡ rules.Idle }
         requires next { number.value ≡ self.old.next }
         ensures line { OnOk result (self.new ≡ started_line self.old word) }
         ensures packet { IfOk result (λ packet. packet
-            ≡ step.call_packet machine (step.started_caller self.old word) (service.arguments_of word)) }
+            ≡ step.call_packet me.machine (step.started_caller self.old word) (service.arguments_of word)) }
     {
         let arguments = arguments_of(alloc, word)?;
-        let payload = Vec::from_slice(alloc, arguments.as_slice())?;
+        let len = arguments.len();
         let action = self
             .caller
-            .start_call(number, self.binding, procedure_of(word), payload.len());
+            .start_call(number, self.binding, procedure_of(word), len);
         self.number = number;
         self.next = number.value + 1;
-        self.arguments = arguments;
         self.kept = Vec::new(alloc);
         match action {
-            Action::Send { header, .. } => Ok(Sent::new(machine, SERVER_MACHINE, header, payload)),
+            Action::Send { header, .. } => {
+                let packet = Outgoing::new(alloc, me, SERVER, header, arguments.as_slice())?;
+                self.arguments = arguments;
+                Ok(packet)
+            }
             _ => unreachable!(),
         }
     }
 
     /// Takes a packet.
-    fn take(&mut self, packet: &Sent) -> Took
-        ensures outcome { (w : World) (k : ℕ) (c : Client) → step.line_takes w k packet.now c (Some self.old)
-            ≡ took_outcome w k packet.now (step.with_line c (packet.now.header.hint + 1) self.new) result }
+    fn take(&mut self, packet: &Arrived) -> Took
+        ensures outcome { (w : World) (k : ℕ) (c : Client) → step.line_takes w k (packet_of packet.now) c (Some self.old)
+            ≡ took_outcome w k (packet_of packet.now) (step.with_line c (packet.now.header.hint + 1) self.new) result }
         ensures missed { KeepsMissed result self.old self.new }
     {
-        let header = packet.header();
         if self.caller.is_idle() {
             return Took::Stale;
         }
-        if self.number.value != header.call.number.value {
+        if self.number.value != packet.header.call.number.value {
             return Took::Stale;
         }
-        match self.caller.on_packet(header) {
+        match self.caller.on_packet(&packet.header) {
             Action::Last { signal } => Took::Returned { signal },
             _ => Took::Unused,
         }
@@ -183,6 +184,7 @@ impl Model for ClientMachine {
 }
 
 impl ClientMachine {
+    ghost use Rattle.replay_packets.specs.Packet.{packet_of};
     ghost use Rattle.replay_world.specs.Client.{CallsAs, KeepsImpossible, took_outcome, KeepsMissed};
 
     pub fn boot(alloc: Global, boot: u32, machine: u8) -> Result<Self, AllocError>
@@ -199,14 +201,14 @@ impl ClientMachine {
     pub fn call(
         &mut self,
         alloc: Global,
-        machine: u8,
+        me: Station,
         process: u8,
         word: CallWord,
         second: u32,
     ) -> Result<Called, AllocError>
         requires { 1 ≤ process }
-        ensures outcome { IfOk result (λ called. (w : World) → CallsAs (record w { second = second }) machine self.new called
-            (step.call_by (record w { second = second }) machine process self.old (numbered 1 self.old.lines process) word)) }
+        ensures outcome { IfOk result (λ called. (w : World) → CallsAs (record w { second = second }) me.machine self.new called
+            (step.call_by (record w { second = second }) me.machine process self.old (numbered 1 self.old.lines process) word)) }
         ensures impossible { IfOk result (λ called. KeepsImpossible called self.old self.new) }
     {
         let place = usize::from(process) - 1;
@@ -221,17 +223,18 @@ impl ClientMachine {
             self.read = second;
             return Ok(Called::TooFast(line.next));
         };
-        let packet = line.start(alloc, machine, number, word)?;
+        let packet = line.start(alloc, me, number, word)?;
         self.read = second;
         Ok(Called::Starts(packet))
     }
 
     /// Takes a packet for the process that the packet's hint names.
-    pub fn take(&mut self, packet: &Sent) -> Took
-        ensures outcome { (w : World) (k : ℕ) → step.client_takes w k packet.now (Some self.old) ≡ took_outcome w k packet.now self.new result }
+    pub fn take(&mut self, packet: &Arrived) -> Took
+        ensures outcome { (w : World) (k : ℕ) → step.client_takes w k (packet_of packet.now) (Some self.old)
+            ≡ took_outcome w k (packet_of packet.now) self.new result }
         ensures missed { KeepsMissed result self.old self.new }
     {
-        let place = usize::from(packet.header().hint);
+        let place = usize::from(packet.header.hint);
         if place >= self.lines.len() {
             return Took::NoCell;
         }

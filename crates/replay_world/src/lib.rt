@@ -2,10 +2,8 @@
 #![tactic(auto)]
 
 mod client;
+mod delivery;
 mod entry;
-mod printed;
-mod run_line;
-mod sent;
 mod server;
 mod service;
 mod worker;

@@ -1,21 +1,21 @@
 //! The server machine.
 
-ghost use Rattle.std.specs.Prelude.{◌≡◌, ◌≤◌, ◌+◌, ◌<◌, ◌^◌, [], ◌∷◌, ◌++◌, length, Some, None, unwrap_or, replicate, nat_lt, IfOk, OnOk, MatchOption, if◌then◌else◌};
+ghost use Rattle.std.specs.Prelude.{◌≡◌, ◌≤◌, ◌+◌, ◌<◌, ◌^◌, [], ◌∷◌, ◌++◌, length, Some, None, unwrap_or, replicate, nat_lt, IfOk, MatchOption, if◌then◌else◌};
 ghost use Rattle.call_rules.specs.Entry as entry;
 ghost use Rattle.call_rules.specs.Worker as rules;
 ghost use Rattle.replay_model.specs.World as model;
 ghost use Rattle.replay_model.specs.World.{World, numbered};
 ghost use Rattle.replay_model.specs.Step as step;
 ghost use Rattle.replay_world.specs.Entry.{word_of_word};
-ghost use Rattle.replay_world.specs.Unfit.{unfit_of};
+ghost use Rattle.replay_lines.specs.Did.{unfit_of};
 
 use crate::client::CLIENTS;
 use crate::entry::{Entry, Word};
-use crate::run_line::RunLine;
-use crate::sent::Sent;
 use crate::service::{Answer, serve};
-use crate::worker::{Did, Unfit, Worker, WorkerState, unfit_for};
-use rpc_header::Activity;
+use crate::worker::{Worker, WorkerState, unfit_for};
+use replay_lines::{Did, RunLine, Unfit};
+use replay_packets::{Arrived, Outgoing, Packet};
+use rpc_header::{Activity, Header, MAX_DATA};
 use script_text::{FIRST_CLIENT, LAST_CLIENT, LAST_PROCESS, LAST_WORKER};
 use std::alloc::{AllocError, Global};
 use std::collections::VecDeque;
@@ -68,7 +68,7 @@ pub struct ServerMachine {
     next: u32,
     entries: Vec<Entry>,
     workers: Vec<Worker>,
-    ready: VecDeque<Sent>,
+    ready: VecDeque<Packet>,
     total: u32,
 }
 
@@ -97,16 +97,17 @@ pub enum Worked {
     /// There is no such worker.
     Impossible,
     /// Nothing is ready.
-    Rests,
+    Idle,
     /// A step for a call of this number.
     Step { number: u64, did: Did },
     /// A body has run.
     Runs(RunLine),
     /// A reply is sent.
-    Replies(Sent),
+    Replies(Outgoing),
 }
 
 impl ServerMachine {
+    ghost use Rattle.replay_packets.specs.Packet.{packet_of};
     ghost use Rattle.replay_world.specs.Service.{answer_of};
     ghost use Rattle.replay_world.specs.Worker.{worker_of};
     ghost use Rattle.replay_world.specs.Server.{WorksAs, KeepsIdle, entry_in, claim_step, StepsFrom, StepsNext, Steps, RunsBody, Replied};
@@ -130,15 +131,16 @@ impl ServerMachine {
     }
 
     /// Takes a packet to the ready ones, and answers whether there was room for it.
-    pub fn take(&mut self, alloc: Global, packet: &Sent) -> Result<bool, AllocError>
+    pub fn take(&mut self, alloc: Global, packet: &Arrived) -> Result<bool, AllocError>
+        requires { length packet.now.payload.now ≤ MAX_DATA }
         ensures room { IfOk result (λ has_room. has_room ≡ nat_lt (length self.old.ready) step.ready_cells) }
         ensures ready { IfOk result (λ has_room. self.new
-            ≡ (if has_room then record self.old { ready = self.old.ready ++ packet.now ∷ [] } else self.old)) }
+            ≡ (if has_room then record self.old { ready = self.old.ready ++ packet_of packet.now ∷ [] } else self.old)) }
     {
         if self.ready.len() >= READY_CELLS {
             return Ok(false);
         }
-        self.ready.push_back(packet.copy(alloc)?)?;
+        self.ready.push_back(Packet::kept(alloc, packet)?)?;
         Ok(true)
     }
 
@@ -183,13 +185,13 @@ impl ServerMachine {
         ensures workers { self.new.workers ≡ self.old.workers }
     {
         match self.ready.pop_front() {
-            None => (WorkerState::Idle, Worked::Rests),
+            None => (WorkerState::Idle, Worked::Idle),
             Some(packet) => self.claim(packet),
         }
     }
 
     /// An idle worker has taken a packet.
-    fn claim(&self, packet: Sent) -> (WorkerState, Worked)
+    fn claim(&self, packet: Packet) -> (WorkerState, Worked)
         ensures { Steps (claim_step (model.entry_at self.now.entries packet.header.call.activity) packet) packet self.now self.now
             (worker_of result.0) result.1 }
     {
@@ -217,7 +219,7 @@ impl ServerMachine {
     }
 
     /// A worker that has claimed its packet has the entry run it, unless the entry has changed since.
-    fn admit(&mut self, carrier: Sent, seen: Word) -> (WorkerState, Worked)
+    fn admit(&mut self, carrier: Packet, seen: Word) -> (WorkerState, Worked)
         ensures step { Steps (rules.on_claimed carrier (word_of_word seen) (entry_in self.old carrier)) carrier self.old self.new
             (worker_of result.0) result.1 }
         ensures workers { self.new.workers ≡ self.old.workers }
@@ -238,15 +240,20 @@ impl ServerMachine {
     }
 
     /// The body of an admitted call runs.
-    fn run(&mut self, alloc: Global, carrier: Sent) -> Result<(WorkerState, Worked), AllocError>
+    fn run(&mut self, alloc: Global, carrier: Packet) -> Result<(WorkerState, Worked), AllocError>
         ensures run { IfOk result (λ r. RunsBody carrier self.old self.new (worker_of r.0) r.1) }
         ensures workers { self.new.workers ≡ self.old.workers }
     {
-        let procedure = carrier.header().procedure;
+        let Header {
+            call,
+            procedure,
+            ..
+        } = *carrier.header();
         let served = serve(alloc, self.total, procedure, carrier.payload())?;
         self.total = served.total;
         let answer = served.answer;
-        let line = RunLine::new(&carrier, &answer);
+        let reply = answer.reply.as_slice();
+        let line = RunLine::new(call, procedure, carrier.payload(), answer.signal, reply);
         Ok((WorkerState::Ran { carrier, answer }, Worked::Runs(line)))
     }
 
@@ -254,14 +261,14 @@ impl ServerMachine {
     fn reply(
         &mut self,
         alloc: Global,
-        carrier: Sent,
+        carrier: Packet,
         answer: Answer,
     ) -> Result<(WorkerState, Worked), AllocError>
         ensures reply { IfOk result (λ r. Replied carrier (answer_of answer) self.old self.new (worker_of r.0) r.1) }
         ensures workers { self.new.workers ≡ self.old.workers }
     {
         let call = carrier.header().call;
-        let packet = carrier.reply(alloc, &answer)?;
+        let packet = carrier.reply(alloc, answer.signal, answer.reply.as_slice())?;
         let Answer { signal, reply } = answer;
         self.set_entry(call.activity, Entry::done(call.number, signal, reply));
         Ok((WorkerState::Idle, Worked::Replies(packet)))

@@ -5,11 +5,12 @@ ghost use Rattle.call_rules.specs.Packet.{Packet};
 ghost use Rattle.call_rules.specs.Entry as entry;
 ghost use Rattle.call_rules.specs.Worker as rules;
 ghost use Rattle.replay_world.specs.Entry.{judged_of};
-ghost use Rattle.replay_world.specs.Unfit.{unfit_of};
+ghost use Rattle.replay_lines.specs.Did.{unfit_of};
 
 use crate::entry::{Judged, Word};
-use crate::sent::Sent;
 use crate::service::Answer;
+use replay_lines::Unfit;
+use replay_packets::Packet;
 use std::marker::Model;
 
 /// What a worker is doing. One that isn't idle holds the packet that it claimed.
@@ -17,9 +18,9 @@ use std::marker::Model;
 pub enum WorkerState {
     Idle,
     /// It has seen this word of the entry.
-    Claimed { carrier: Sent, seen: Word },
-    Admitted(Sent),
-    Ran { carrier: Sent, answer: Answer },
+    Claimed { carrier: Packet, seen: Word },
+    Admitted(Packet),
+    Ran { carrier: Packet, answer: Answer },
 }
 
 /// One worker.
@@ -36,30 +37,6 @@ impl Model for Worker {
     ghost use Rattle.replay_world.specs.Worker.{worker_of};
 
     ghost view = { λ w. worker_of w.state };
-}
-
-/// Why a worker drops its packet.
-#[derive(Clone, Copy, PartialEq, Eq)]
-pub enum Unfit {
-    Older,
-    Same,
-    Busy,
-    Unknown,
-    Skipped,
-    Lost,
-    Full,
-    NoBuffer,
-    BadName,
-}
-
-/// What a worker did in a step.
-#[derive(Clone, Copy, PartialEq, Eq)]
-pub enum Did {
-    Claims,
-    Admits,
-    Runs,
-    Replies,
-    Drops(Unfit),
 }
 
 impl Worker {

@@ -1,6 +1,6 @@
 //! The player's world.
 
-ghost use Rattle.std.specs.Prelude.{◌≡◌, ℕ, ◌+◌, ◌<◌, ◌≤◌, ◌^◌, [], ◌∷◌, ◌++◌, length, slice_get, Some, IfOk, OnOk};
+ghost use Rattle.std.specs.Prelude.{◌≡◌, ℕ, List, ◌+◌, ◌<◌, ◌≤◌, ◌^◌, [], ◌∷◌, ◌++◌, length, IfOk, OnOk};
 ghost use Rattle.call_rules.specs.Packet.{Packet};
 ghost use Rattle.replay_model.specs.Record.{Records};
 ghost use Rattle.replay_model.specs.Record as act;
@@ -9,21 +9,21 @@ ghost use Rattle.replay_model.specs.Step as step;
 ghost use Rattle.replay_model.specs.Lines.{lines_of_act};
 ghost use Rattle.replay_model.specs.Transcript.{lines};
 ghost use Rattle.replay_model.specs.Script.{InRange};
+ghost use Rattle.replay_packets.specs.Sent.{sent_of};
 ghost use Rattle.replay_world.specs.Stored.{load};
 ghost use Rattle.replay_world.specs.Stands.{Stands};
 ghost use Rattle.replay_world.specs.Played.{world_with, Keeps, Plays};
 
-use crate::client::{CLIENTS, Called, ClientMachine, SERVER_MACHINE, Took};
-use crate::printed::{
-    Discard, put_discard, put_end, put_impossible, put_packet, put_ready, put_rest, put_return,
-    put_runs, put_start, put_too_fast, put_work,
-};
-use crate::run_line::{RunLine, Tally};
-use crate::sent::Sent;
+use crate::client::{CLIENTS, Called, ClientMachine};
+use crate::delivery::{hand_over, tell};
 use crate::server::{ServerMachine, Worked};
-use crate::worker::Did;
-use lane_checksum::digest_of;
+use ff_io::Station;
+use replay_lines::{
+    Counts, Did, RunLine, put_end, put_frame, put_idle, put_impossible, put_packet, put_runs,
+    put_start, put_too_fast, put_work,
+};
 use replay_model::{CallWord, Event};
+use replay_packets::{Outgoing, Sent};
 use script_text::FIRST_CLIENT;
 use std::alloc::{AllocError, Global};
 use std::marker::Model;
@@ -39,7 +39,7 @@ pub struct World {
     clients: Vec<ClientMachine>,
     bag: Vec<Sent>,
     runs: Vec<RunLine>,
-    tally: Tally,
+    counts: Counts,
 }
 
 impl Model for World {
@@ -47,7 +47,7 @@ impl Model for World {
 
     ghost Value = { Stored };
 
-    ghost view = { λ w. record { second = w.second; server = w.server; clients = w.clients.items; bag = w.bag.items; runs = w.runs.items; counts = w.tally } };
+    ghost view = { λ w. record { second = w.second; server = w.server; clients = w.clients.items; bag = w.bag.items; runs = w.runs.items; counts = w.counts } };
 }
 
 impl World {
@@ -65,11 +65,11 @@ impl World {
             clients: boot_clients(alloc)?,
             bag: Vec::new(alloc),
             runs: Vec::new(alloc),
-            tally: Tally::none(),
+            counts: Counts::none(),
         })
     }
 
-    /// Steps the world, and appends the event's lines. After an `Err` the world is only closed.
+    /// Steps the world, and appends the event's lines. After an `Err` nothing is said of the world; it is only let go.
     pub fn apply(
         &mut self,
         alloc: Global,
@@ -89,9 +89,11 @@ impl World {
                 word,
             } => self.call(alloc, machine, process, word, out),
             Event::Deliver(packet) => self.deliver(alloc, packet, out),
+            Event::Damage { packet, bit } => self.damage(alloc, packet, bit, out),
+            Event::Show(packet) => self.show(alloc, packet, out),
             Event::Work(worker) => self.work(alloc, worker, out),
             Event::Journal => put_runs(alloc, out, self.runs.as_slice()),
-            Event::End => put_end(alloc, out, &self.tally),
+            Event::End => put_end(alloc, out, &self.counts),
         }
     }
 
@@ -104,11 +106,11 @@ impl World {
         word: CallWord,
         out: &mut Vec<u8>,
     ) -> Result<(), AllocError>
-        requires machine { 2 ≤ machine }
+        requires machine { (2 ≤ machine) × (machine ≤ 9) }
         requires process { 1 ≤ process }
         requires few { load self.old < 2 ^ 62 }
-        ensures played { (r : Records) → Keeps self.old r → OnOk result (Plays out.old.items out.new.items self.new r
-            (step.call_event (world_with self.old r) machine process (model.numbered model.first_client self.old.clients machine) word)) }
+        ensures played { (bag : List Packet) (r : Records) → Keeps self.old bag r → OnOk result (Plays out.old.items out.new.items self.new r
+            (step.call_event (world_with self.old bag r) machine process (model.numbered model.first_client self.old.clients machine) word)) }
         ensures load { OnOk result (load self.new ≤ load self.old + 1) }
     {
         let place = usize::from(machine - FIRST_CLIENT);
@@ -116,7 +118,8 @@ impl World {
             return put_impossible(out);
         }
         let client = &mut self.clients[place];
-        match client.call(alloc, machine, process, word, self.second)? {
+        let me = Station { machine };
+        match client.call(alloc, me, process, word, self.second)? {
             Called::Impossible => put_impossible(out),
             Called::TooFast(number) => put_too_fast(alloc, out, number, self.second),
             Called::Starts(packet) => {
@@ -127,13 +130,14 @@ impl World {
     }
 
     /// Sends a packet.
-    fn send(&mut self, alloc: Global, packet: Sent, out: &mut Vec<u8>) -> Result<(), AllocError>
+    fn send(&mut self, alloc: Global, packet: Outgoing, out: &mut Vec<u8>) -> Result<(), AllocError>
         requires { length self.old.bag < 2 ^ 62 }
-        ensures bag { OnOk result (self.new ≡ record self.old { bag = self.old.bag ++ packet ∷ [] }) }
+        ensures bag { OnOk result (self.new ≡ record self.old { bag = self.old.bag ++ sent_of packet ∷ [] }) }
         ensures printed { OnOk result (out.new.items ≡ out.old.items ++ lines_of_act (act.Sends (length self.old.bag + 1) packet)) }
     {
-        put_packet(alloc, out, self.bag.len() + 1, &packet)?;
-        self.bag.push(packet)?;
+        let number = self.bag.len() + 1;
+        put_packet(alloc, out, number, &packet)?;
+        self.bag.push(packet.sent())?;
         Ok(())
     }
 
@@ -141,82 +145,85 @@ impl World {
     fn deliver(&mut self, alloc: Global, number: u32, out: &mut Vec<u8>) -> Result<(), AllocError>
         requires number { 1 ≤ number }
         requires few { load self.old < 2 ^ 62 }
-        ensures played { (r : Records) → Keeps self.old r → OnOk result (Plays out.old.items out.new.items self.new r
-            (step.deliver_event (world_with self.old r) number (model.packet_at self.old.bag number))) }
+        ensures played { (bag : List Packet) (r : Records) → Keeps self.old bag r → OnOk result (Plays out.old.items out.new.items self.new r
+            (step.deliver_event (world_with self.old bag r) number (model.packet_at bag number))) }
         ensures load { OnOk result (load self.new ≤ load self.old + 1) }
     {
         let place = number as usize - 1;
         if place >= self.bag.len() {
             return put_impossible(out);
         }
-        if self.bag[place].to() == SERVER_MACHINE {
-            self.deliver_to_server(alloc, number, out)
-        } else {
-            self.deliver_to_client(alloc, number, out)
-        }
+        let sent = &self.bag[place];
+        let taken = hand_over(
+            alloc,
+            &mut self.server,
+            &mut self.clients,
+            sent.to(),
+            sent.frame(),
+        )?;
+        tell(alloc, &mut self.counts, number, taken, out)
     }
 
-    fn deliver_to_server(
+    /// A packet comes to its receiver with one bit of its frame flipped.
+    fn damage(
         &mut self,
         alloc: Global,
         number: u32,
+        bit: u16,
         out: &mut Vec<u8>,
     ) -> Result<(), AllocError>
         requires number { 1 ≤ number }
-        requires is_there { number ≤ length self.old.bag }
-        ensures played { (r : Records) (p : Packet) → Keeps self.old r → model.packet_at self.old.bag number ≡ Some p
-            → OnOk result (Plays out.old.items out.new.items self.new r (step.server_takes (world_with self.old r) number p)) }
-        ensures load { OnOk result (load self.new ≤ load self.old) }
-    {
-        let arrived = &self.bag[number as usize - 1];
-        if self.server.take(alloc, arrived)? {
-            return put_ready(alloc, out, number);
-        }
-        put_discard(out, Discard::NoRoom)
-    }
-
-    fn deliver_to_client(
-        &mut self,
-        alloc: Global,
-        number: u32,
-        out: &mut Vec<u8>,
-    ) -> Result<(), AllocError>
-        requires number { 1 ≤ number }
-        requires is_there { number ≤ length self.old.bag }
         requires few { load self.old < 2 ^ 62 }
-        ensures played { (r : Records) (p : Packet) → Keeps self.old r → model.packet_at self.old.bag number ≡ Some p
-            → OnOk result (Plays out.old.items out.new.items self.new r
-            (step.client_takes (world_with self.old r) number p (model.numbered model.first_client self.old.clients p.to))) }
+        ensures played { (bag : List Packet) (r : Records) → Keeps self.old bag r → OnOk result (Plays out.old.items out.new.items self.new r
+            (step.damage_event (world_with self.old bag r) number bit (model.packet_at bag number))) }
         ensures load { OnOk result (load self.new ≤ load self.old + 1) }
     {
-        let packet = &self.bag[number as usize - 1];
-        match hand_over(&mut self.clients, packet) {
-            Took::NoCell => put_discard(out, Discard::NoCell),
-            Took::Stale => put_discard(out, Discard::Stale),
-            Took::Unused => put_discard(out, Discard::Unused),
-            Took::Returned { signal } => {
-                self.tally.count_return(signal);
-                let reply = digest_of(packet.payload());
-                put_return(alloc, out, packet.header().call, signal, &reply)
-            }
+        let place = number as usize - 1;
+        if place >= self.bag.len() {
+            return put_impossible(out);
         }
+        let sent = &self.bag[place];
+        let Some(frame) = sent.damaged(alloc, bit)? else {
+            return put_impossible(out);
+        };
+        let taken = hand_over(
+            alloc,
+            &mut self.server,
+            &mut self.clients,
+            sent.to(),
+            frame.as_slice(),
+        )?;
+        tell(alloc, &mut self.counts, number, taken, out)
+    }
+
+    /// The frame of a packet is printed.
+    fn show(&self, alloc: Global, number: u32, out: &mut Vec<u8>) -> Result<(), AllocError>
+        requires number { 1 ≤ number }
+        ensures { (bag : List Packet) (r : Records) → Keeps self.now bag r → OnOk result (Plays out.old.items out.new.items self.now r
+            (step.show_event (world_with self.now bag r) number (model.packet_at bag number))) }
+    {
+        let place = number as usize - 1;
+        if place >= self.bag.len() {
+            return put_impossible(out);
+        }
+        put_frame(alloc, out, number, self.bag[place].frame())
     }
 
     /// One step of a worker.
     fn work(&mut self, alloc: Global, worker: u8, out: &mut Vec<u8>) -> Result<(), AllocError>
         requires worker { 1 ≤ worker }
         requires few { load self.old < 2 ^ 62 }
-        ensures played { (r : Records) → Keeps self.old r → OnOk result (Plays out.old.items out.new.items self.new r
-            (step.work_event (world_with self.old r) worker (model.numbered 1 self.old.server.workers worker))) }
+        ensures played { (bag : List Packet) (r : Records) → Keeps self.old bag r → OnOk result (Plays out.old.items out.new.items self.new r
+            (step.work_event (world_with self.old bag r) worker (model.numbered 1 self.old.server.workers worker))) }
         ensures load { OnOk result (load self.new ≤ load self.old + 1) }
     {
         match self.server.work(alloc, worker)? {
             Worked::Impossible => put_impossible(out),
-            Worked::Rests => put_rest(alloc, out, worker),
+            Worked::Idle => put_idle(alloc, out, worker),
             Worked::Step { number, did } => put_work(alloc, out, worker, number, did),
             Worked::Runs(line) => {
                 put_work(alloc, out, worker, line.call.number.value, Did::Runs)?;
-                self.tally.count_run();
+                self.counts.count_run();
                 self.runs.push(line)?;
                 Ok(())
             }
@@ -243,22 +250,4 @@ fn boot_clients(alloc: Global) -> Result<Vec<ClientMachine>, AllocError>
         clients.push(ClientMachine::boot(alloc, FIRST_SECOND, FIRST_CLIENT + place)?)?;
     }
     Ok(clients)
-}
-
-ghost use Rattle.replay_world.specs.Client.{took_in};
-
-/// Hands a packet to the client that it goes to.
-fn hand_over(clients: &mut Vec<ClientMachine>, packet: &Sent) -> Took
-    ensures { (w : model.World) (k : ℕ) → step.client_takes (record w { clients = clients.old.items }) k packet.now
-        (model.numbered model.first_client clients.old.items packet.now.to) ≡ took_in (record w { clients = clients.new.items }) k packet.now result }
-{
-    if packet.to() < FIRST_CLIENT {
-        return Took::NoCell;
-    }
-    let place = usize::from(packet.to() - FIRST_CLIENT);
-    if place >= clients.len() {
-        return Took::NoCell;
-    }
-    let client = &mut clients[place];
-    client.take(packet)
 }

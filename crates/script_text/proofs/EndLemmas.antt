@@ -13,6 +13,8 @@ ends_where_last (event.End ∷ []) e = tt
 ends_where_last (event.End ∷ d ∷ es) e = absurd (omega arith)
 ends_where_last (event.Call m p w ∷ es) e = ends_where_last es (omega arith)
 ends_where_last (event.Deliver k ∷ es) e = ends_where_last es (omega arith)
+ends_where_last (event.Damage k b ∷ es) e = ends_where_last es (omega arith)
+ends_where_last (event.Show k ∷ es) e = ends_where_last es (omega arith)
 ends_where_last (event.Work w ∷ es) e = ends_where_last es (omega arith)
 ends_where_last (event.Journal ∷ es) e = ends_where_last es (omega arith)
 
@@ -22,5 +24,7 @@ last_where_ends (event.End ∷ []) h = refl
 last_where_ends (event.End ∷ d ∷ es) h = absurd h
 last_where_ends (event.Call m p w ∷ es) h = omega (arith, last_where_ends es h)
 last_where_ends (event.Deliver k ∷ es) h = omega (arith, last_where_ends es h)
+last_where_ends (event.Damage k b ∷ es) h = omega (arith, last_where_ends es h)
+last_where_ends (event.Show k ∷ es) h = omega (arith, last_where_ends es h)
 last_where_ends (event.Work w ∷ es) h = omega (arith, last_where_ends es h)
 last_where_ends (event.Journal ∷ es) h = omega (arith, last_where_ends es h)

@@ -1,7 +1,7 @@
 -- What a text reads as.
-use Rattle.std.specs.Prelude.{ℕ, List, map}
+use Rattle.std.specs.Prelude.{ℕ, List}
 use Rattle.std.specs.List.{AllZip}
-use Rattle.replay_model.specs.Script.{Script, Spells, words_of, lines_of_text}
+use Rattle.replay_model.specs.Script.{Script, Spells, lines_of_words}
 use Rattle.replay_model.specs.declared.event.Event.{Event}
 use Rattle.script_text.specs.declared.script.Script.{Script as Parsed}
 
@@ -9,6 +9,6 @@ use Rattle.script_text.specs.declared.script.Script.{Script as Parsed}
 abbrev pub script_of : Parsed → Script
 script_of s = record { small = s.small; long = s.long; events = s.events }
 
--- each line of the text spells an event
+-- each line of the text that isn't skipped spells an event
 abbrev pub ReadsAs : List ℕ → List Event → Type 0
-ReadsAs text events = AllZip Spells (map words_of (lines_of_text text)) events
+ReadsAs text events = AllZip Spells (lines_of_words text) events

@@ -10,6 +10,8 @@ texts words = map (λ (w : Bor (List ℕ)). w.now) words
 abbrev pub text_of : Verb → List ℕ
 text_of verb.Call = codes "call"
 text_of verb.Deliver = codes "deliver"
+text_of verb.Damage = codes "damage"
+text_of verb.Show = codes "show"
 text_of verb.Work = codes "work"
 text_of verb.Journal = codes "journal"
 text_of verb.End = codes "end"

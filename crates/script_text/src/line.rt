@@ -1,14 +1,15 @@
 //! What one line of a script spells.
-ghost use Rattle.std.specs.Prelude.{◌≡◌, ◌≢◌, map, IfSome, IfNone, IfOk, MatchOption};
+ghost use Rattle.std.specs.Prelude.{◌≡◌, ◌≢◌, IfSome, IfNone, IfOk, MatchOption};
 ghost use Rattle.script_text.specs.Words.{texts, text_of};
 ghost use Rattle.script_text.specs.declared.line.Verb.{Verb};
-ghost use Rattle.replay_model.specs.Script.{Spells, SpellsCall, words_of};
+ghost use Rattle.replay_model.specs.Script.{Spells, SpellsCall, words_of, is_skipped};
 ghost use Rattle.replay_model.specs.declared.event.Event.{Event};
 ghost use Rattle.replay_model.specs.declared.event.CallWord.{CallWord};
 
-use crate::number::{number, small_number};
+use crate::number::{number, short_number, small_number};
 use replay_model::{CallWord, Event};
 use std::alloc::{AllocError, Global};
+use udp_frames::LARGEST_FRAME;
 
 /// Machines 2 to 9 are clients. Machine 1 is the server.
 pub const FIRST_CLIENT: u8 = 2;
@@ -22,11 +23,16 @@ pub const LAST_PROCESS: u8 = 8;
 /// The last worker of the server. Workers are numbered from 1.
 pub const LAST_WORKER: u8 = 4;
 
+/// The last bit of the largest frame. Bits are numbered from 0.
+pub const LAST_BIT: u16 = (8 * LARGEST_FRAME - 1) as u16;
+
 /// What the first word of a line says.
 #[derive(Clone, Copy)]
 enum Verb {
     Call,
     Deliver,
+    Damage,
+    Show,
     Work,
     Journal,
     End,
@@ -38,6 +44,8 @@ fn verb_of(word: &[u8]) -> Option<Verb>
     match word {
         b"call" => Some(Verb::Call),
         b"deliver" => Some(Verb::Deliver),
+        b"damage" => Some(Verb::Damage),
+        b"show" => Some(Verb::Show),
         b"work" => Some(Verb::Work),
         b"journal" => Some(Verb::Journal),
         b"end" => Some(Verb::End),
@@ -52,6 +60,10 @@ fn call_word_of(words: &[&[u8]]) -> Option<CallWord>
 {
     match words {
         [b"null"] => Some(CallWord::Null),
+        [b"add", one, other] => Some(CallWord::Add(
+            number(one, 0, u32::MAX)?,
+            number(other, 0, u32::MAX)?,
+        )),
         _ => None,
     }
 }
@@ -69,6 +81,11 @@ pub fn event_of(words: &[&[u8]]) -> Option<Event>
             word: call_word_of(asked)?,
         }),
         (Verb::Deliver, [packet]) => Some(Event::Deliver(number(packet, 1, u32::MAX)?)),
+        (Verb::Damage, [packet, bit]) => Some(Event::Damage {
+            packet: number(packet, 1, u32::MAX)?,
+            bit: short_number(bit, 0, LAST_BIT)?,
+        }),
+        (Verb::Show, [packet]) => Some(Event::Show(number(packet, 1, u32::MAX)?)),
         (Verb::Work, [worker]) => Some(Event::Work(small_number(worker, 1, LAST_WORKER)?)),
         (Verb::Journal, []) => Some(Event::Journal),
         (Verb::End, []) => Some(Event::End),
@@ -83,4 +100,11 @@ pub fn words_of(alloc: Global, line: &[u8]) -> Result<Vec<&[u8]>, AllocError>
     line.split(|byte| matches!(*byte, b' ' | b'\t'))
         .filter(|word| !word.is_empty())
         .collect(alloc)
+}
+
+/// Whether a line is skipped: it has no words, or is a comment.
+pub fn is_skipped(words: &[&[u8]]) -> bool
+    ensures { result ≡ is_skipped (texts words.now) }
+{
+    matches!(words, [] | [[b'#', ..], ..])
 }

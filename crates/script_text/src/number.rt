@@ -16,7 +16,15 @@ pub fn number(word: &[u8], low: u32, high: u32) -> Option<u32>
     if low <= n && n <= high { Some(n) } else { None }
 }
 
-/// The same, for a small range.
+/// The same, for a range within 16 bits.
+pub fn short_number(word: &[u8], low: u16, high: u16) -> Option<u16>
+    ensures found { IfSome result (IsNumber word.now low high) }
+    ensures none { IfNone result ((n : ℕ) → IsNumber word.now low high n → ⊥) }
+{
+    number(word, u32::from(low), u32::from(high)).map(|n| n as u16)
+}
+
+/// The same, for a range within 8 bits.
 pub fn small_number(word: &[u8], low: u8, high: u8) -> Option<u8>
     ensures found { IfSome result (IsNumber word.now low high) }
     ensures none { IfNone result ((n : ℕ) → IsNumber word.now low high n → ⊥) }

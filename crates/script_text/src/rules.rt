@@ -32,14 +32,14 @@ pub fn delivers_once(alloc: Global, events: &[Event]) -> Result<bool, AllocError
     Ok(packets.is_sorted_by(|one, next| one < next))
 }
 
-/// The packets that are delivered, in the order of the events.
+/// The packets that are delivered, damaged or not, in the order of the events.
 fn delivered_packets(alloc: Global, events: &[Event]) -> Result<Vec<u32>, AllocError>
     ensures { IfOk result (λ packets. packets.items ≡ filter_map delivered_packet events.now) }
 {
     events
         .iter()
         .filter_map(|event| match event {
-            Event::Deliver(packet) => Some(*packet),
+            Event::Deliver(packet) | Event::Damage { packet, .. } => Some(*packet),
             _ => None,
         })
         .collect(alloc)

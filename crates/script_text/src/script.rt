@@ -1,12 +1,12 @@
 //! Scripts, and how their texts are read.
-ghost use Rattle.std.specs.Prelude.{◌≡◌, ◌+◌, ◌-◌, ◌^◌, ◌<◌, ◌≤◌, ◌⊎◌, ℕ, List, [], ◌∷◌, map, length, IfOk, IfErr, MatchOption, All, position, vec_len};
+ghost use Rattle.std.specs.Prelude.{◌≡◌, ◌+◌, ◌-◌, ◌^◌, ◌<◌, ◌≤◌, ◌⊎◌, ℕ, List, [], ◌∷◌, length, IfOk, IfErr, MatchOption, All, position, vec_len};
 ghost use Rattle.replay_model.specs.Script.{InRange};
 ghost use Rattle.script_text.specs.Reading.{script_of, ReadsAs};
-ghost use Rattle.replay_model.specs.Script.{IsScript, Script as Scripted, lines_of_text, is_newline};
+ghost use Rattle.replay_model.specs.Script.{IsScript, Script as Scripted, lines_of_text, is_newline, without_return};
 ghost use Rattle.replay_model.specs.declared.event.Event.{Event};
 
 use crate::fault::ScriptFault;
-use crate::line::{event_of, words_of};
+use crate::line::{event_of, is_skipped, words_of};
 use crate::rules::{delivers_once, ends_once};
 use item_list::Items;
 use replay_model::Event;
@@ -56,7 +56,7 @@ pub fn one_reading()
     ensures { (text : List ℕ) (a b : Scripted) → IsScript text a → IsScript text b → a ≡ b }
 {}
 
-/// The event of each line.
+/// The event of each line that isn't skipped.
 fn read_events(alloc: Global, text: &[u8]) -> Result<Vec<Event>, ScriptFault>
     ensures read { IfOk result (λ v. ReadsAs text.now v.items) }
     ensures refused { result ≡ Err ScriptFault.BAD_TEXT → (es : List Event) → ReadsAs text.now es → ⊥ }
@@ -67,8 +67,10 @@ fn read_events(alloc: Global, text: &[u8]) -> Result<Vec<Event>, ScriptFault>
     let mut rest = text;
     while let Some((line, behind)) = first_line(rest) {
         let words = words_of(alloc, line)?;
-        let event = event_of(&words).ok_or(ScriptFault::BAD_TEXT)?;
-        events.push(event)?;
+        if !is_skipped(&words) {
+            let event = event_of(&words).ok_or(ScriptFault::BAD_TEXT)?;
+            events.push(event)?;
+        }
         rest = behind;
     }
     Ok(events)
@@ -83,7 +85,7 @@ fn first_line(text: &[u8]) -> Option<(&[u8], &[u8])>
         return None;
     }
     match first_newline(text) {
-        Some(end) => Some((&text[..end], &text[end + 1..])),
+        Some(end) => Some((without_return(&text[..end]), &text[end + 1..])),
         None => Some((text, &[])),
     }
 }
@@ -92,4 +94,11 @@ fn first_newline(text: &[u8]) -> Option<usize>
     ensures { result ≡ position is_newline text.now }
 {
     text.iter().position(|byte| *byte == b'\n')
+}
+
+/// A line without the carriage return, if there is one, that stands before its newline.
+fn without_return(line: &[u8]) -> &[u8]
+    ensures { result.now ≡ without_return line.now }
+{
+    line.strip_suffix(b"\r").unwrap_or(line)
 }

@@ -1,5 +1,5 @@
-use Rattle.std.proofs.Common.{◌≡◌, ◌≤◌, ℕ, List, length, sym, ap, subst, ◌∙◌, inl, inr, rules, arith, Err}
-use Rattle.replay_model.specs.Script.{Script, IsScript}
+use Rattle.std.proofs.Common.{◌≡◌, ◌≤◌, ℕ, List, length, sym, ap, subst, inl, inr, rules, arith, Err}
+use Rattle.replay_model.specs.Script.{IsScript}
 use Rattle.ffrpc.proofs.Reading.{told, told_is, turned}
 use Rattle.ffrpc.proofs.replay.read_script.Goals as goal
 

@@ -1,4 +1,3 @@
-use Rattle.std.proofs.Common.{◌≡◌}
 use Rattle.script_text.specs.Reading.{script_of}
 use Rattle.ffrpc.specs.declared.status.Status.TheVariants as status
 use Rattle.ffrpc.proofs.Saying.{says_not_read, says_stopped}

@@ -1,11 +1,11 @@
--- The text is cut at its first newline, or is one line.
+-- The text is cut at its first newline, with the carriage return before it, or is one line.
 use Rattle.std.proofs.Common.{◌∙◌, sym, arith}
 use Rattle.std.proofs.lemmas.Bool.{eqb-false}
 use Rattle.script_text.proofs.Lines.{line_at, last_line}
 use Rattle.script_text.proofs.script.first_line.Goals as goal
 
 pub returns-in-Some-clause-lines : goal.returns-in-Some-clause-lines
-returns-in-Some-clause-lines c = line_at c.args.text.now c.in-Some.end (sym c.first_newline.ensures ∙ c.in-Some.is)
+returns-in-Some-clause-lines c = rw c.without_return.ensures (line_at c.args.text.now c.in-Some.end (sym c.first_newline.ensures ∙ c.in-Some.is))
 
 pub returns-in-None-clause-lines : goal.returns-in-None-clause-lines
 returns-in-None-clause-lines c =

@@ -11,7 +11,7 @@ pub returns-then-place-len-clause-outcome : goal.returns-then-place-len-clause-o
 returns-then-place-len-clause-outcome c w =
     let self : Client = the_view c.self.inside in
     let past : length c.self.inside.lines.items ≤ c.args.process - 1 = omega (arith, c.self.inside.lines.ok.0) in
-    rw (← c.self.view_is) (call_by-none (record w { second = c.args.second }) c.args.machine c.args.process self c.args.word (numbered-none 1 c.self.inside.lines.items c.args.process (omega arith) past))
+    rw (← c.self.view_is) (call_by-none (record w { second = c.args.second }) c.args.me.machine c.args.process self c.args.word (numbered-none 1 c.self.inside.lines.items c.args.process (omega arith) past))
 
 pub returns-then-not-is_idle-clause-outcome : goal.returns-then-not-is_idle-clause-outcome
 returns-then-not-is_idle-clause-outcome c w =
@@ -19,7 +19,7 @@ returns-then-not-is_idle-clause-outcome c w =
     let items = c.self.inside.lines.items in
     let line = c.index_mut-line.result.now in
     let some = numbered-some 1 items c.args.process line (omega arith) (omega (arith, c.self.inside.lines.ok.0)) (c.index_mut-line.ensures.value ∙ ap (λ (i : ℕ). get_or items (i - 1) line) c.from-place.ensures) in
-    rw (← c.self.view_is) (call_by-busy (record w { second = c.args.second }) c.args.machine c.args.process self line c.args.word some (sym c.is_idle.ensures ∙ c.if-not-is_idle.true))
+    rw (← c.self.view_is) (call_by-busy (record w { second = c.args.second }) c.args.me.machine c.args.process self line c.args.word some (sym c.is_idle.ensures ∙ c.if-not-is_idle.true))
 
 pub returns-in_default-clause-outcome : goal.returns-in_default-clause-outcome
 returns-in_default-clause-outcome c w =
@@ -28,10 +28,10 @@ returns-in_default-clause-outcome c w =
     let line = c.index_mut-line.result.now in
     let before : World = record w { second = c.args.second } in
     let some = numbered-some 1 items c.args.process line (omega arith) (omega (arith, c.self.inside.lines.ok.0)) (c.index_mut-line.ensures.value ∙ ap (λ (i : ℕ). get_or items (i - 1) line) c.from-place.ensures) in
-    let outcome : List Line → ℕ → Outcome = λ lines next. record { world = with_client before c.args.machine (record self { read = c.args.second; lines = lines }); acts = TooFast line.caller.activity next c.args.second ∷ [] } in
+    let outcome : List Line → ℕ → Outcome = λ lines next. record { world = with_client before c.args.me.machine (record self { read = c.args.second; lines = lines }); acts = TooFast line.caller.activity next c.args.second ∷ [] } in
     rw (← c.self.view_is) (
       line.caller.activity,
-      call_by-fast before c.args.machine c.args.process self line c.args.word some (sym c.is_idle.ensures ∙ c.if-not-is_idle.false) c.in_default.ensures
+      call_by-fast before c.args.me.machine c.args.process self line c.args.word some (sym c.is_idle.ensures ∙ c.if-not-is_idle.false) c.in_default.ensures
           ∙ (ap (λ (lines : List Line). outcome lines line.next) (sym (set-same items (c.from-place.result - 1) line c.index_mut-line.ensures.value))
           ∙ ap (outcome (set items (c.from-place.result - 1) line)) (sym (ap (λ (l : Line). l.next) c.line.view_is))),
     )
@@ -43,7 +43,7 @@ returns-clause-outcome c w =
     let line = c.index_mut-line.result.now in
     let some = numbered-some 1 items c.args.process line (omega arith) (omega (arith, c.self.inside.lines.ok.0)) (c.index_mut-line.ensures.value ∙ ap (λ (i : ℕ). get_or items (i - 1) line) c.from-place.ensures) in
     rw (← c.self.view_is)
-    (call_by-started (record w { second = c.args.second }) c.args.machine c.args.process self line c.args.word _ c.in_ok-packet.packet some (sym c.is_idle.ensures ∙ c.if-not-is_idle.false) c.in-Some.ensures.1
+    (call_by-started (record w { second = c.args.second }) c.args.me.machine c.args.process self line c.args.word _ c.in_ok-packet.packet some (sym c.is_idle.ensures ∙ c.if-not-is_idle.false) c.in-Some.ensures.1
     (ap (λ (i : ℕ). record self { read = c.args.second; lines = set items (i - 1) c.start.new.self }) c.from-place.ensures
     ∙ ap (λ (l : Line). record self { read = c.args.second; lines = set items (c.args.process - 1) l }) c.in_ok-packet.ensures.line)
     c.in_ok-packet.ensures.packet)

@@ -3,38 +3,38 @@ use Rattle.std.proofs.lemmas.Result.{on_ok_weaker}
 use Rattle.replay_model.specs.Record.{Impossible, TooFast, Starts, Sends}
 use Rattle.replay_model.specs.World.{World, Client, numbered}
 use Rattle.replay_model.specs.Step.{Outcome, call_event, call_by, impossible}
+use Rattle.replay_packets.specs.Sent.{sent_of}
 use Rattle.replay_world.specs.Stored.{Stored}
 use Rattle.replay_world.specs.Played.{Keeps, Plays, world_with}
 use Rattle.replay_world.specs.Client.{CallsAs, KeepsImpossible, start_of}
-use Rattle.std.specs.Prelude.{codes}
 use Rattle.call_rules.specs.Packet.{Packet, Fields}
-use Rattle.replay_model.specs.Lines.{lines_of_act, call_text, newline}
+use Rattle.replay_model.specs.Lines.{lines_of_act}
 use Rattle.replay_world.specs.declared.client.Called.{Called}
 use Rattle.replay_world.specs.declared.client.Called.TheVariants as called
 use Rattle.replay_world.specs.contracts.world.World.{the_view}
 use Rattle.replay_world.proofs.Numbered.{numbered-none, numbered-some, set-same}
 use Rattle.replay_world.proofs.WorldSteps.{call_event-none, call_event-some}
-use Rattle.replay_world.proofs.PlaySteps.{plays_one, plays_two, plays_as, keeps_start, keeps_sent, on_ok_both}
+use Rattle.replay_world.proofs.PlaySteps.{plays_one, plays_two, plays_as, keeps_start, keeps_sent, keeps_packet, same_count, on_ok_both}
 use Rattle.replay_world.proofs.world.World.call.Goals as goal
 
 pub returns-then-place-len-clause-played : goal.returns-then-place-len-clause-played
-returns-then-place-len-clause-played c r k =
+returns-then-place-len-clause-played c b r k =
     let s : Stored = the_view c.self.inside in
-    let kept : Keeps s r = subst (λ (x : Stored). Keeps x r) (sym c.self.view_is) k in
+    let kept : Keeps s b r = subst (λ (x : Stored). Keeps x b r) (sym c.self.view_is) k in
     let before : List ℕ = c.args.out.now.items in
     let after : List ℕ = c.put_impossible.new.out.items in
     let m : ℕ = c.args.machine in
     let past : length s.clients ≤ m - 2 = omega (arith, c.self.inside.clients.ok.0) in
     rw (← c.self.view_is)
-    (on_ok_weaker c.put_impossible.result (λ e. plays_as before after s r _ (impossible (world_with s r))
-    (call_event-none (world_with s r) m c.args.process (numbered 2 s.clients m) c.args.word (numbered-none 2 s.clients m (omega arith) past))
-    (plays_one before after s r Impossible e kept)) c.put_impossible.ensures)
+    (on_ok_weaker c.put_impossible.result (λ e. plays_as before after s r _ (impossible (world_with s b r))
+    (call_event-none (world_with s b r) m c.args.process (numbered 2 s.clients m) c.args.word (numbered-none 2 s.clients m (omega arith) past))
+    (plays_one before after s b r Impossible e kept)) c.put_impossible.ensures)
 
 pub returns-in-Impossible-clause-played : goal.returns-in-Impossible-clause-played
-returns-in-Impossible-clause-played c r k =
+returns-in-Impossible-clause-played c b r k =
     let s : Stored = the_view c.self.inside in
-    let kept : Keeps s r = subst (λ (x : Stored). Keeps x r) (sym c.self.view_is) k in
-    let w : World = world_with s r in
+    let kept : Keeps s b r = subst (λ (x : Stored). Keeps x b r) (sym c.self.view_is) k in
+    let w : World = world_with s b r in
     let before : List ℕ = c.args.out.now.items in
     let after : List ℕ = c.put_impossible-in-Impossible.new.out.items in
     let m : ℕ = c.args.machine in
@@ -49,13 +49,13 @@ returns-in-Impossible-clause-played c r k =
     rw (← c.self.view_is)
     (on_ok_weaker c.put_impossible-in-Impossible.result (λ e. subst (λ (x : Stored). Plays before after x r o) (sym same)
     (plays_as before after s r o (impossible w) (call_event-some w m c.args.process (numbered 2 s.clients m) client c.args.word some ∙ did)
-    (plays_one before after s r Impossible e kept))) c.put_impossible-in-Impossible.ensures)
+    (plays_one before after s b r Impossible e kept))) c.put_impossible-in-Impossible.ensures)
 
 pub returns-in-TooFast-clause-played : goal.returns-in-TooFast-clause-played
-returns-in-TooFast-clause-played c r k =
+returns-in-TooFast-clause-played c b r k =
     let s : Stored = the_view c.self.inside in
-    let kept : Keeps s r = subst (λ (x : Stored). Keeps x r) (sym c.self.view_is) k in
-    let w : World = world_with s r in
+    let kept : Keeps s b r = subst (λ (x : Stored). Keeps x b r) (sym c.self.view_is) k in
+    let w : World = world_with s b r in
     let before : List ℕ = c.args.out.now.items in
     let after : List ℕ = c.put_too_fast.new.out.items in
     let m : ℕ = c.args.machine in
@@ -69,13 +69,13 @@ returns-in-TooFast-clause-played c r k =
     rw (← c.self.view_is)
     (on_ok_weaker c.put_too_fast.result (λ e. subst (λ (i : ℕ). Plays before after (at i) r o) (sym c.from-place.ensures)
     (plays_as before after (at (m - 2)) r o _ (call_event-some w m c.args.process (numbered 2 s.clients m) client c.args.word some ∙ did.1)
-    (plays_one before after (at (m - 2)) r (TooFast did.0 c.in-TooFast.number s.second) e (record { runs = kept.runs; counts = kept.counts })))) c.put_too_fast.ensures)
+    (plays_one before after (at (m - 2)) b r (TooFast did.0 c.in-TooFast.number s.second) e (record { frames = kept.frames; runs = kept.runs; counts = kept.counts })))) (c.put_too_fast.ensures did.0))
 
 pub returns-in_ok-put_start-in-Starts-clause-played : goal.returns-in_ok-put_start-in-Starts-clause-played
-returns-in_ok-put_start-in-Starts-clause-played c r k =
+returns-in_ok-put_start-in-Starts-clause-played c b r k =
     let s : Stored = the_view c.self.inside in
-    let kept : Keeps s r = subst (λ (x : Stored). Keeps x r) (sym c.self.view_is) k in
-    let w : World = world_with s r in
+    let kept : Keeps s b r = subst (λ (x : Stored). Keeps x b r) (sym c.self.view_is) k in
+    let w : World = world_with s b r in
     let before : List ℕ = c.args.out.now.items in
     let middle : List ℕ = c.put_start.new.out.items in
     let after : List ℕ = c.send.new.out.items in
@@ -87,12 +87,14 @@ returns-in_ok-put_start-in-Starts-clause-played c r k =
     let o : Outcome = call_event w m c.args.process (numbered 2 s.clients m) c.args.word in
     let by : Outcome = call_by w m c.args.process client (numbered 1 client.lines c.args.process) c.args.word in
     let did : CallsAs w m new (called.Starts packet) by = subst (λ (d : Called). CallsAs w m new d by) c.in-Starts.is (c.in_ok-call.ensures.outcome w) in
-    let at : ℕ → Stored = λ i. record s { clients = set s.clients i new; bag = s.bag ++ packet ∷ [] } in
+    let at : ℕ → Stored = λ i. record s { clients = set s.clients i new; bag = s.bag ++ sent_of packet ∷ [] } in
     let start : middle ≡ before ++ lines_of_act (Starts (start_of packet)) =
-    c.in_ok-put_start-in-Starts.ensures ∙ ap (λ (h : Fields). before ++ (codes "start " ++ call_text h.call ++ newline)) c.header.ensures in
+    c.in_ok-put_start-in-Starts.ensures (start_of packet) (ap (λ (h : Fields). h.call) (sym c.header.ensures)) in
     rw (← c.self.view_is)
-    (on_ok_both c.send.result (λ b e. subst (λ (x : Stored). Plays before after x r o) (sym (b ∙ ap at c.from-place.ensures))
+    (on_ok_both c.send.result (λ q e. subst (λ (x : Stored). Plays before after x r o) (sym (q ∙ ap at c.from-place.ensures))
     (plays_as before after (at (m - 2)) r o _ (call_event-some w m c.args.process (numbered 2 s.clients m) client c.args.word some ∙ did)
-    (plays_two before middle after (at (m - 2)) r (Starts (start_of packet)) (Sends (length s.bag + 1) packet) start e
-    (keeps_sent (at (m - 2)) _ _ packet (keeps_start (at (m - 2)) r (start_of packet) (record { runs = kept.runs; counts = kept.counts }))))))
+    (plays_two before middle after (at (m - 2)) (b ++ packet ∷ []) r (Starts (start_of packet)) (Sends (length b + 1) packet) start
+    (e ∙ ap (λ (n : ℕ). middle ++ lines_of_act (Sends (n + 1) packet)) (same_count s b r kept))
+    (keeps_sent (at (m - 2)) (b ++ packet ∷ []) _ _ packet (keeps_start (at (m - 2)) (b ++ packet ∷ []) r (start_of packet)
+    (keeps_packet (record s { clients = set s.clients (m - 2) new }) b r packet (record { frames = kept.frames; runs = kept.runs; counts = kept.counts })))))))
     c.send.ensures.bag c.send.ensures.printed)

@@ -1,0 +1,2 @@
+pub mod DigestLines
+pub mod Put

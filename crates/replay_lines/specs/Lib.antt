@@ -1,0 +1,4 @@
+pub mod Counts
+pub mod Did
+pub mod Digests
+pub mod Printed

@@ -1,0 +1,99 @@
+//! The counts of calls, and the last line, which shows them.
+
+ghost use Rattle.std.specs.Prelude.{◌≡◌, ◌++◌, ◌+◌, ◌<◌, ◌^◌, OnOk, codes};
+ghost use Rattle.std.specs.Fmt.{decimal};
+ghost use Rattle.replay_model.specs.Record as act;
+ghost use Rattle.replay_model.specs.Record.{counts_of, no_records};
+ghost use Rattle.replay_model.specs.Lines.{newline, lines_of_act};
+ghost use Rattle.replay_lines.specs.Counts.{counts_run, counts_return};
+
+use crate::text::put;
+use std::alloc::{AllocError, Global};
+use std::marker::Model;
+
+/// How many calls ran, and how they ended for their callers.
+#[derive(Drop)]
+pub struct Counts {
+    /// The runs of bodies.
+    pub runs: u64,
+    /// The calls that returned without a signal.
+    pub returned: u64,
+    /// The calls that returned by a signal.
+    pub signalled: u64,
+    /// The calls that nobody answered.
+    pub failed: u64,
+    /// The calls that the server refused.
+    pub refused: u64,
+}
+
+impl Model for Counts {
+    ghost use Rattle.replay_model.specs.Record.{Counts};
+
+    ghost Value = { Counts };
+
+    ghost view = { λ c. record { runs = c.runs; returned = c.returned; signalled = c.signalled; failed = c.failed; refused = c.refused } };
+}
+
+impl Counts {
+    /// Makes counts of no run and no end of a call.
+    pub fn none() -> Self
+        ensures { result ≡ counts_of no_records }
+    {
+        Counts {
+            runs: 0,
+            returned: 0,
+            signalled: 0,
+            failed: 0,
+            refused: 0,
+        }
+    }
+
+    /// Counts a run of a body.
+    pub fn count_run(&mut self)
+        requires { self.old.runs < 2 ^ 62 }
+        ensures { self.new ≡ counts_run self.old }
+    {
+        self.runs += 1;
+    }
+
+    /// Counts a call that has returned, by a signal or not.
+    pub fn count_return(&mut self, signal: bool)
+        requires returned { self.old.returned < 2 ^ 62 }
+        requires signalled { self.old.signalled < 2 ^ 62 }
+        ensures { self.new ≡ counts_return self.old signal }
+    {
+        if signal {
+            self.signalled += 1;
+        } else {
+            self.returned += 1;
+        }
+    }
+}
+
+/// Appends the last line, which shows the counts.
+pub fn put_end(alloc: Global, out: &mut Vec<u8>, counts: &Counts) -> Result<(), AllocError>
+    ensures { OnOk result (out.new.items ≡ out.old.items ++ lines_of_act (act.Ends counts.now)) }
+{
+    put_ran(alloc, out, counts.runs, counts.returned, counts.signalled)?;
+    put_lost(alloc, out, counts.failed, counts.refused)
+}
+
+fn put_ran(
+    alloc: Global,
+    out: &mut Vec<u8>,
+    runs: u64,
+    returned: u64,
+    signalled: u64,
+) -> Result<(), AllocError>
+    ensures { OnOk result (out.new.items ≡ out.old.items ++ (codes "end runs " ++ decimal runs ++ codes " returned " ++ decimal returned ++ codes " signalled " ++ decimal signalled)) }
+{
+    let line = format!(in alloc; "end runs {runs} returned {returned} signalled {signalled}")?;
+    put(out, line.as_str())
+}
+
+fn put_lost(alloc: Global, out: &mut Vec<u8>, failed: u64, refused: u64) -> Result<(), AllocError>
+    ensures { OnOk result (out.new.items ≡ out.old.items ++ (codes " failed " ++ decimal failed ++ codes " refused " ++ decimal refused ++ newline)) }
+{
+    let line = format!(in alloc; " failed {failed} refused {refused}\n")?;
+    put(out, line.as_str())
+}

@@ -1,0 +1,25 @@
+//! The lines of a transcript: what is printed of each thing that happens, and what is kept of runs and of
+//! counts to print it.
+//!
+//! Each `put_` call appends the lines of one thing that happens. It answers `Err` only where memory is short, and
+//! `out` may then end in a part of a line.
+#![tactic(auto)]
+
+mod calls;
+mod counts;
+mod deliveries;
+mod digests;
+mod packets;
+mod runs;
+mod text;
+mod work;
+
+pub use calls::{put_impossible, put_return, put_start, put_too_fast};
+pub use counts::{Counts, put_end};
+pub use deliveries::{put_discard, put_frame, put_ready};
+pub use packets::put_packet;
+pub use runs::{RunLine, put_runs};
+pub use work::{Did, Unfit, put_idle, put_work};
+
+#[cfg(test)]
+mod tests;

@@ -1,0 +1,207 @@
+//! Each kind of line once. The texts are those of worked transcripts.
+
+use super::*;
+use ff_io::Station;
+use replay_packets::{Discard, Outgoing, SERVER};
+use rpc_header::{Activity, CallId, Export, Header, HeaderFault, Kind, fits, number};
+use std::alloc::{AllocError, Global};
+use std::test::Fail;
+use udp_frames::FrameFault;
+
+/// The first call of process 1 of machine 2.
+fn first_call() -> Option<CallId> {
+    let number = number(65536)?;
+    Some(CallId {
+        activity: Activity {
+            machine: 2,
+            process: 1,
+        },
+        number,
+    })
+}
+
+const CALLS: &[u8] = b"impossible\n\
+start 2.1 65536\n\
+nostart TooFast 131072 1\n\
+returned 2.1 65536 0:\n\
+returned 2.1 65536 4:00000001\n\
+signalled 2.1 65536 1\n\
+returned 2.1 65536 1441:#5616\n";
+
+/// The marshalled bytes 0, 1 and so on modulo 251, with their count in front.
+fn long_result(alloc: Global) -> Result<Vec<u8>, AllocError> {
+    let mut bytes = Vec::from_slice(alloc, &[0x00, 0x00, 0x05, 0x9d])?;
+    for place in 0..1437u32 {
+        bytes.push((place % 251) as u8)?;
+    }
+    Ok(bytes)
+}
+
+#[test]
+fn calls_start_and_return(rt: HostRuntime) -> Result<(), Fail> {
+    let alloc = rt.alloc();
+    let call = first_call().ok_or("a call number")?;
+    let mut out = Vec::new(alloc);
+    put_impossible(&mut out)?;
+    put_start(alloc, &mut out, call)?;
+    put_too_fast(alloc, &mut out, 131_072, 1)?;
+    put_return(alloc, &mut out, call, false, &[])?;
+    put_return(alloc, &mut out, call, false, &[0, 0, 0, 1])?;
+    put_return(alloc, &mut out, call, true, &[0, 1])?;
+    let long = long_result(alloc)?;
+    assert_eq!(rt; long.len(), 1441);
+    put_return(alloc, &mut out, call, false, &long)?;
+    assert_eq!(rt; out.as_slice(), CALLS);
+    Ok(())
+}
+
+const PACKETS: &[u8] = b"packet 1 2>1 call 65536/0 -l 0\n\
+packet 2 1>2 result 65536/0 a- 1440\n\
+packet 3 2>1 call 65536/1 -l 1\n\
+packet 5 2>1 probe 65536/0 al 0\n";
+
+const CLIENT: Station = Station { machine: 2 };
+
+/// The packet with this header and these data.
+fn packet(
+    alloc: Global,
+    from: Station,
+    to: Station,
+    header: Header,
+    data: &[u8],
+) -> Result<Outgoing, Fail> {
+    if !fits(&header, data.len()) {
+        return Err("a header that fits".into());
+    }
+    Ok(Outgoing::new(alloc, from, to, header, data)?)
+}
+
+#[test]
+fn packets_are_sent(rt: HostRuntime) -> Result<(), Fail> {
+    let alloc = rt.alloc();
+    let mut header = Header {
+        kind: Kind::Call,
+        please_ack: false,
+        last: true,
+        reason: 0,
+        call: first_call().ok_or("a call number")?,
+        hint: 0,
+        fragment: 0,
+        export: Export {
+            identifier: 1,
+            index: 0,
+        },
+        procedure: 0,
+    };
+    let mut out = Vec::new(alloc);
+    put_packet(
+        alloc,
+        &mut out,
+        1,
+        &packet(alloc, CLIENT, SERVER, header, &[])?,
+    )?;
+    header.kind = Kind::Result;
+    header.please_ack = true;
+    header.last = false;
+    put_packet(
+        alloc,
+        &mut out,
+        2,
+        &packet(alloc, SERVER, CLIENT, header, &[0; 1440])?,
+    )?;
+    header.kind = Kind::Call;
+    header.please_ack = false;
+    header.last = true;
+    header.fragment = 1;
+    put_packet(
+        alloc,
+        &mut out,
+        3,
+        &packet(alloc, CLIENT, SERVER, header, &[7])?,
+    )?;
+    header.kind = Kind::Probe;
+    header.please_ack = true;
+    header.fragment = 0;
+    put_packet(
+        alloc,
+        &mut out,
+        5,
+        &packet(alloc, CLIENT, SERVER, header, &[])?,
+    )?;
+    assert_eq!(rt; out.as_slice(), PACKETS);
+    Ok(())
+}
+
+const STEPS: &[u8] = b"ready 1\n\
+frame 1 3 00ff9a\n\
+drop frame NotForUs\n\
+drop frame UdpChecksum\n\
+drop header Reserved\n\
+drop Kind\n\
+drop Foreign\n\
+drop NoBuffer\n\
+drop NoRoom\n\
+drop NoCell\n\
+drop Stale\n\
+drop Taken\n\
+drop Lost\n\
+drop Unused\n\
+worker 1 idle\n\
+worker 1 claims 65536\n\
+worker 1 admits 65536\n\
+worker 1 runs 65536\n\
+worker 1 replies 65536\n\
+worker 2 drops Lost\n";
+
+#[test]
+fn packets_come_and_workers_step(rt: HostRuntime) -> Result<(), Fail> {
+    let alloc = rt.alloc();
+    let mut out = Vec::new(alloc);
+    put_ready(alloc, &mut out, 1)?;
+    put_frame(alloc, &mut out, 1, &[0x00, 0xff, 0x9a])?;
+    put_discard(&mut out, Discard::Frame(FrameFault::NotForUs))?;
+    put_discard(&mut out, Discard::Frame(FrameFault::UdpChecksum))?;
+    put_discard(&mut out, Discard::Header(HeaderFault::Reserved))?;
+    put_discard(&mut out, Discard::Kind)?;
+    put_discard(&mut out, Discard::Foreign)?;
+    put_discard(&mut out, Discard::NoBuffer)?;
+    put_discard(&mut out, Discard::NoRoom)?;
+    put_discard(&mut out, Discard::NoCell)?;
+    put_discard(&mut out, Discard::Stale)?;
+    put_discard(&mut out, Discard::Taken)?;
+    put_discard(&mut out, Discard::Lost)?;
+    put_discard(&mut out, Discard::Unused)?;
+    put_idle(alloc, &mut out, 1)?;
+    put_work(alloc, &mut out, 1, 65536, Did::Claims)?;
+    put_work(alloc, &mut out, 1, 65536, Did::Admits)?;
+    put_work(alloc, &mut out, 1, 65536, Did::Runs)?;
+    put_work(alloc, &mut out, 1, 65536, Did::Replies)?;
+    put_work(alloc, &mut out, 2, 65536, Did::Drops(Unfit::Lost))?;
+    assert_eq!(rt; out.as_slice(), STEPS);
+    Ok(())
+}
+
+const ENDS: &[u8] = b"journal empty\n\
+run 1 2.1 65536 null 0: -> 0:\n\
+run 2 2.1 65536 add 17:#0908 -> !0\n\
+end runs 2 returned 1 signalled 1 failed 0 refused 0\n";
+
+#[test]
+fn runs_are_listed_and_counted(rt: HostRuntime) -> Result<(), Fail> {
+    let alloc = rt.alloc();
+    let call = first_call().ok_or("a call number")?;
+    let mut out = Vec::new(alloc);
+    let mut runs = Vec::new(alloc);
+    put_runs(alloc, &mut out, &runs)?;
+    let mut counts = Counts::none();
+    runs.push(RunLine::new(call, 0, &[], false, &[]))?;
+    counts.count_run();
+    counts.count_return(false);
+    runs.push(RunLine::new(call, 1, &[1; 17], true, &[0, 0]))?;
+    counts.count_run();
+    counts.count_return(true);
+    put_runs(alloc, &mut out, &runs)?;
+    put_end(alloc, &mut out, &counts)?;
+    assert_eq!(rt; out.as_slice(), ENDS);
+    Ok(())
+}

@@ -1,0 +1,3 @@
+pub mod Discard
+pub mod Packet
+pub mod Sent
