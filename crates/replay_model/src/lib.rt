@@ -8,6 +8,7 @@
 
 mod event;
 mod laws;
+pub mod limits;
 
 pub use event::{ADD, CallWord, Event, NULL};
 pub use laws::fields_are_a_header;
