@@ -1,4 +1,3 @@
 pub mod Counts
-pub mod Did
 pub mod Digests
 pub mod Printed
