@@ -35,7 +35,7 @@ impl Display for CallText {
 pub fn put_impossible(out: &mut Vec<u8>) -> Result<(), AllocError>
     ensures { OnOk result (out.new.items ≡ out.old.items ++ lines_of_act act.Impossible) }
 {
-    write!(out, "impossible\n")
+    writeln!(out, "impossible")
 }
 
 /// Appends the line of a call that was started.
@@ -43,7 +43,7 @@ pub fn put_start(out: &mut Vec<u8>, call: CallId) -> Result<(), AllocError>
     ensures { (start : Start) → start.call ≡ call_of call →
         OnOk result (out.new.items ≡ out.old.items ++ lines_of_act (act.Starts start)) }
 {
-    write!(out, "start {}\n", CallText(call))
+    writeln!(out, "start {}", CallText(call))
 }
 
 /// Appends the line of a refused start, with the number that it would have had, and the second.
@@ -51,7 +51,7 @@ pub fn put_too_fast(out: &mut Vec<u8>, number: u64, second: u32) -> Result<(), A
     ensures { (activity : Activity) →
         OnOk result (out.new.items ≡ out.old.items ++ lines_of_act (act.TooFast activity number second)) }
 {
-    write!(out, "nostart TooFast {number} {second}\n")
+    writeln!(out, "nostart TooFast {number} {second}")
 }
 
 /// Appends the line of a call that returned, by a signal or not, with its reply of fewer than 2^32 bytes.
@@ -68,8 +68,8 @@ pub fn put_return(
     let call = CallText(call);
     let reply = digest_of(reply);
     if signal {
-        write!(out, "signalled {call} {}\n", ExceptionText(reply))
+        writeln!(out, "signalled {call} {}", ExceptionText(reply))
     } else {
-        write!(out, "returned {call} {}\n", BytesText(reply))
+        writeln!(out, "returned {call} {}", BytesText(reply))
     }
 }

@@ -80,8 +80,8 @@ pub fn put_end(out: &mut Vec<u8>, counts: &Counts) -> Result<(), AllocError>
         failed,
         refused,
     } = *counts;
-    write!(
+    writeln!(
         out,
-        "end runs {runs} returned {returned} signalled {signalled} failed {failed} refused {refused}\n"
+        "end runs {runs} returned {returned} signalled {signalled} failed {failed} refused {refused}"
     )
 }

@@ -16,21 +16,21 @@ use udp_frames::FrameFault;
 pub fn put_ready(out: &mut Vec<u8>, packet: u32) -> Result<(), AllocError>
     ensures { OnOk result (out.new.items ≡ out.old.items ++ lines_of_act (act.Readies packet)) }
 {
-    write!(out, "ready {packet}\n")
+    writeln!(out, "ready {packet}")
 }
 
 /// Appends the line of a delivery that ends without a packet handed on.
 pub fn put_discard(out: &mut Vec<u8>, why: Discard) -> Result<(), AllocError>
     ensures { OnOk result (out.new.items ≡ out.old.items ++ lines_of_act (act.Discards why)) }
 {
-    write!(out, "drop {}\n", DiscardText(why))
+    writeln!(out, "drop {}", DiscardText(why))
 }
 
 /// Appends the line that shows a packet's frame: the packet's number, and the length and the bytes of the frame.
 pub fn put_frame(out: &mut Vec<u8>, number: u32, frame: &[u8]) -> Result<(), AllocError>
     ensures { OnOk result (out.new.items ≡ out.old.items ++ lines_of_act (act.Shows number frame.now)) }
 {
-    write!(out, "frame {number} {} {}\n", frame.len(), Hex(frame))
+    writeln!(out, "frame {number} {} {}", frame.len(), Hex(frame))
 }
 
 /// The reason for which a delivery ends.

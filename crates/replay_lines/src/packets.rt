@@ -22,7 +22,7 @@ pub fn put_packet(
     ensures { OnOk result (out.new.items ≡ out.old.items ++ packet_line number from to (fields_of header.now) len) }
 {
     let header = HeaderText(header);
-    write!(out, "packet {number} {from}>{to} {header} {len}\n")
+    writeln!(out, "packet {number} {from}>{to} {header} {len}")
 }
 
 /// A header by its kind, its call's number with its fragment's, and its flags.

@@ -76,10 +76,10 @@ pub fn put_runs(out: &mut Vec<u8>, runs: &[RunLine]) -> Result<(), AllocError>
         OnOk result (out.new.items ≡ out.old.items ++ lines_of_act (act.ListsRuns journal)) }
 {
     if runs.is_empty() {
-        return write!(out, "journal empty\n");
+        return writeln!(out, "journal empty");
     }
     for (i, run) in runs.iter().enumerate() {
-        write!(out, "run {} {run}\n", i + 1)?;
+        writeln!(out, "run {} {run}", i + 1)?;
     }
     Ok(())
 }

@@ -115,7 +115,13 @@ worker 1 claims 65536\n\
 worker 1 admits 65536\n\
 worker 1 runs 65536\n\
 worker 1 replies 65536\n\
-worker 2 drops Lost\n";
+worker 2 drops Lost\n\
+worker 3 begins 65536\n\
+worker 4 takes 65536\n\
+worker 4 rests 65536\n\
+worker 4 rejects 65536 2\n\
+worker 4 waits\n\
+worker 4 drops NoBuffer\n";
 
 #[test]
 fn packets_come_and_workers_step(rt: HostRuntime) -> Result<(), Fail> {
@@ -141,6 +147,12 @@ fn packets_come_and_workers_step(rt: HostRuntime) -> Result<(), Fail> {
     put_work(&mut out, 1, 65536, Did::Runs)?;
     put_work(&mut out, 1, 65536, Did::Replies)?;
     put_work(&mut out, 2, 65536, Did::Drops(Unfit::Lost))?;
+    put_work(&mut out, 3, 65536, Did::Begins)?;
+    put_work(&mut out, 4, 65536, Did::Takes)?;
+    put_work(&mut out, 4, 65536, Did::Rests)?;
+    put_work(&mut out, 4, 65536, Did::Rejects(2))?;
+    put_work(&mut out, 4, 65536, Did::Waits)?;
+    put_work(&mut out, 4, 65536, Did::Drops(Unfit::NoBuffer))?;
     assert_eq!(rt; out.as_slice(), STEPS);
     Ok(())
 }

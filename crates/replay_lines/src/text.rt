@@ -9,7 +9,7 @@ use std::fmt::{self, Display, Write};
 
 /// A text that is printed into.
 pub(crate) trait Print {
-    /// Appends a value as `{}` prints it, which takes memory only where the text grows. This is what `write!` calls.
+    /// Appends a value as `{}` prints it, which takes memory only where the text grows. This is what `writeln!` calls.
     fn write_fmt<D: Display + Drop>(&mut self, value: D) -> Result<(), AllocError>;
 }
 
@@ -18,11 +18,7 @@ impl Print for Vec<u8> {
         ensures { OnOk result (AppendsText self.old.items self.new.items (D.output value)) }
     {
         let mut end = End { text: self };
-        let result = end.write(value);
-        let End { text } = end;
-        // Nothing happens here. The proof reads from it what the text holds now.
-        let _ = &*text;
-        match result {
+        match end.write(value) {
             Ok(()) => Ok(()),
             Err(_) => Err(AllocError),
         }

@@ -13,14 +13,14 @@ use std::fmt::{self, Display, Formatter};
 pub fn put_idle(out: &mut Vec<u8>, worker: u8) -> Result<(), AllocError>
     ensures { OnOk result (out.new.items ≡ out.old.items ++ lines_of_act (act.Idles worker)) }
 {
-    write!(out, "worker {worker} idle\n")
+    writeln!(out, "worker {worker} idle")
 }
 
 /// Appends the line of a worker's step for a call of this number.
 pub fn put_work(out: &mut Vec<u8>, worker: u8, number: u64, did: Did) -> Result<(), AllocError>
     ensures { OnOk result (out.new.items ≡ out.old.items ++ lines_of_act (act.Works worker number did)) }
 {
-    write!(out, "worker {worker} {}\n", DidText { number, did })
+    writeln!(out, "worker {worker} {}", DidText { number, did })
 }
 
 /// What a worker did for a call of this number.

@@ -236,12 +236,7 @@ impl World {
                 Ok(())
             }
             Worked::Replies(packet) => {
-                put_work(
-                    out,
-                    worker,
-                    packet.header().call.number.value,
-                    Did::Replies,
-                )?;
+                put_work(out, worker, packet.header().call.number.value, Did::Replies)?;
                 self.send(packet, out)
             }
         }

@@ -10,6 +10,6 @@ pub returns : goal.returns
 returns c =
     let n = c.counts.inside in
     rw (← c.counts.view_is)
-    (on_ok_weaker c.write.result (λ e. e ∙ ap (λ (t : List ℕ). c.args.out.now.items ++ t)
+    (on_ok_weaker c.writeln.result (λ e. e ∙ ap (λ (t : List ℕ). c.args.out.now.items ++ t)
     (regroup_eleven (codes "end runs ") (decimal n.runs) (codes " returned ") (decimal n.returned) (codes " signalled ") (decimal n.signalled)
-    (codes " failed ") (decimal n.failed) (codes " refused ") (decimal n.refused) newline)) c.write.ensures)
+    (codes " failed ") (decimal n.failed) (codes " refused ") (decimal n.refused) newline)) c.writeln.ensures)

@@ -9,6 +9,6 @@ use Rattle.replay_lines.proofs.packets.put_packet.Goals as goal
 
 pub returns : goal.returns
 returns c =
-    on_ok_weaker c.write.result (λ e. e ∙ ap (λ (t : List ℕ). c.args.out.now.items ++ t)
+    on_ok_weaker c.writeln.result (λ e. e ∙ ap (λ (t : List ℕ). c.args.out.now.items ++ t)
     (regroup_eleven (codes "packet ") (decimal c.args.number) blank (decimal c.args.from) (codes ">") (decimal c.args.to) blank
-    (header_text (fields_of c.args.header.now)) blank (decimal c.args.len) newline)) c.write.ensures
+    (header_text (fields_of c.args.header.now)) blank (decimal c.args.len) newline)) c.writeln.ensures

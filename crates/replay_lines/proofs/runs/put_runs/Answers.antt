@@ -9,5 +9,5 @@ returns c journal is =
 
 pub loop-i-preserved : goal.loop-i-preserved
 loop-i-preserved c =
-    runs_added c.args.out.now.items c.loop-i.out.items c.write-in-loop-i.new.self.items c.args.runs.now c.loop-i.i c.index-runs-i.result
-    c.loop-i-test.true c.index-runs-i.is c.loop-i.invariant c.in_ok-write.ensures
+    runs_added c.args.out.now.items c.loop-i.out.items c.writeln-in-loop-i.new.self.items c.args.runs.now c.loop-i.i c.index-runs-i.result
+    c.loop-i-test.true c.index-runs-i.is c.loop-i.invariant c.in_ok-writeln.ensures

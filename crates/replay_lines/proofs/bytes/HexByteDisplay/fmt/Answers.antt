@@ -1,7 +1,7 @@
 use Rattle.std.proofs.Common.{ℕ, ◌<◌, List, [], ap, ◌∙◌, arith, false, Some}
 use Rattle.std.proofs.Output.{displays_on_ok_of_eq}
 use Rattle.std.proofs.lemmas.Fmt.{hex_byte}
-use Rattle.std.specs.Fmt.{digits, digits_output, format_spec, padded_integral, radix_prefix, shown_prefix}
+use Rattle.std.specs.Fmt.{digits_output, format_spec, padded_integral, radix_prefix, shown_prefix}
 use Rattle.std.specs.Option.{option_map}
 use Rattle.replay_lines.proofs.bytes.HexByteDisplay.fmt.Goals as goal
 
