@@ -15,7 +15,7 @@ use Rattle.replay_model.specs.declared.event.Event.{Event}
 use Rattle.replay_model.specs.Step.{Outcome, outcome, step}
 use Rattle.replay_model.specs.Transcript.{lines}
 use Rattle.replay_model.specs.Lines.{lines_of_act}
-use Rattle.replay_lines.specs.Digests.{RunDigest, run_digest}
+use Rattle.replay_model.specs.Digests.{RunDigest, run_digest}
 use Rattle.replay_lines.specs.Counts.{counts_run, counts_return}
 use Rattle.replay_packets.specs.Sent.{SentFrame, sent_of}
 use Rattle.replay_world.specs.Stored.{Stored, stored_of}

@@ -14,7 +14,7 @@ use Rattle.replay_model.specs.Step.{impossible, discarded, call_by, call_event, 
 use Rattle.replay_world.specs.declared.client.Took.{Took}
 use Rattle.replay_world.specs.declared.client.Took.TheVariants as took
 use Rattle.replay_world.specs.Client.{took_outcome, took_in, KeepsMissed}
-use Rattle.replay_lines.specs.Digests.{RunDigest}
+use Rattle.replay_model.specs.Digests.{RunDigest}
 use Rattle.replay_packets.specs.Sent.{SentFrame}
 use Rattle.replay_world.specs.Stands.{Stands}
 use Rattle.replay_world.proofs.Numbered.{set-same}

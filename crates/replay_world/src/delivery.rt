@@ -116,7 +116,6 @@ fn take_at_client(clients: &mut Vec<ClientMachine>, packet: &Arrived) -> Took
 
 /// Counts and prints what became of packet `number`.
 pub fn tell(
-    alloc: Global,
     counts: &mut Counts,
     number: u32,
     taken: Taken,
@@ -130,7 +129,7 @@ pub fn tell(
     ensures load { OnOk result (RoseByAtMostOne counts.old counts.new) }
 {
     match taken {
-        Taken::Readied => put_ready(alloc, out, number),
+        Taken::Readied => put_ready(out, number),
         Taken::Dropped(why) => put_discard(out, why),
         Taken::Returned {
             call,
@@ -138,7 +137,7 @@ pub fn tell(
             reply,
         } => {
             counts.count_return(signal);
-            put_return(alloc, out, call, signal, reply)
+            put_return(out, call, signal, reply)
         }
     }
 }
