@@ -6,6 +6,8 @@ use Rattle.std.proofs.lemmas.List.{take-append-drop}
 use Rattle.ff_io.specs.Told.{Appended}
 use Rattle.ff_io.proofs.ToldLemmas.{Appended-none, Appended-append}
 use Rattle.replay_model.specs.declared.event.Event.{Event}
+use Rattle.replay_model.specs.Lines.{lines_of}
+use Rattle.replay_model.specs.Record.{Act}
 use Rattle.replay_model.specs.World as model
 use Rattle.replay_model.specs.Script.{Script}
 use Rattle.replay_model.specs.Step.{step, outcome, run}
@@ -14,7 +16,7 @@ use Rattle.replay_world.specs.Stands.{Stands}
 use Rattle.replay_world.specs.Stored.{Stored, load}
 use Rattle.ffrpc.specs.Replay.{EndsLine, world_of}
 use Rattle.ffrpc.specs.Steps.{Flushed, PartOf, WroteLines, WroteFront}
-use Rattle.ffrpc.proofs.LineEnds.{EndsLine-append, acts_end}
+use Rattle.ffrpc.proofs.LineEnds.{EndsLine-append}
 
 -- the first index events were played
 pub record Playing (s : Script) (index : ℕ) (world : Stored) (out : List ℕ) (old new : Option (List ℕ)) : Type 0 where
@@ -50,16 +52,20 @@ lines_from-append w (x ∷ these) those =
     ap (λ more. lines w x ++ more) (lines_from-append (step w x) these those)
     ∙ sym (append_assoc (lines w x) (lines_from (step w x) these) (lines_from (run (step w x) these) those))
 
-lines_end : (w : model.World) (e : Event) → EndsLine (lines w e)
-unfolding lines
-lines_end w e = acts_end (outcome w e).acts
+-- all that happens prints whole lines
+abbrev pub WholeLines : Type 0
+WholeLines = (acts : List Act) → EndsLine (lines_of acts)
 
-pub Playing-event : (s : Script) (i : ℕ) (world world' : Stored) (events : List Event) (d : Event) (out out' : List ℕ) (old new : Option (List ℕ))
+lines_end : WholeLines → (w : model.World) (e : Event) → EndsLine (lines w e)
+unfolding lines
+lines_end whole w e = whole (outcome w e).acts
+
+pub Playing-event : WholeLines → (s : Script) (i : ℕ) (world world' : Stored) (events : List Event) (d : Event) (out out' : List ℕ) (old new : Option (List ℕ))
     → Playing s i world out old new → i < length s.events → events ≡ s.events
     → out' ≡ out ++ lines (run (world_of s) (take i s.events)) (get_or events i d)
     → Stands world' (step (run (world_of s) (take i s.events)) (get_or events i d)) → load world' ≤ load world + 1000
     → Playing s (i + 1) world' out' old new
-Playing-event s i world world' events d out out' old new p below same printed stands small =
+Playing-event whole s i world world' events d out out' old new p below same printed stands small =
     let e : Event = get_or events i d in
     let at : model.World = run (world_of s) (take i s.events) in
     let one : e ∷ [] ≡ get_or s.events i d ∷ [] = ap (λ xs. get_or xs i d ∷ []) same in
@@ -71,7 +77,7 @@ Playing-event s i world world' events d out out' old new p below same printed st
       stands = subst (Stands world') (sym reached) stands;
       shown = p.shown;
       shown_ends = p.shown_ends;
-      out_ends = subst EndsLine (sym printed) (EndsLine-append out (lines at e) p.out_ends (lines_end at e));
+      out_ends = subst EndsLine (sym printed) (EndsLine-append out (lines at e) p.out_ends (lines_end whole at e));
       written = p.written;
       printed =
           ap (lines_from (world_of s)) next ∙ lines_from-append (world_of s) (take i s.events) (e ∷ [])

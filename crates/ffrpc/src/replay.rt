@@ -15,6 +15,7 @@ use crate::fault_line::fault_line_of;
 use crate::status::Status;
 use ff_io::{ReadAll, Sink, Source, WriteFailed, read_all, write_all};
 use once_law::once_after_any_events;
+use replay_model::acts_print_whole_lines;
 use replay_world::{Script, World, parse_script};
 use script_text::one_reading;
 use std::alloc::Global;
@@ -91,6 +92,7 @@ fn play<K: Sink>(alloc: Global, script: &Script, sink: &mut K) -> Result<(), Sta
         (Rose (K.faults sink.old) (K.faults sink.new)) (K.written sink.old) (K.written sink.new)) }
     ensures count { K.faults sink.old ≤ K.faults sink.new }
 {
+    acts_print_whole_lines();
     let mut world = World::make(alloc, script.small, script.long)?;
     let mut out = Vec::new(alloc);
     for event in script.events.as_slice() {
