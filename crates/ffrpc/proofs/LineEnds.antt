@@ -6,7 +6,7 @@ use Rattle.replay_model.specs.Record as act
 use Rattle.replay_model.specs.Lines.{lines_of_act, lines_of, return_line, journal_lines, run_lines, run_line, run_text, end_line, newline, blank, call_text, bytes_text, exception_number, hex, packet_text, discard_text, did_text}
 use Rattle.std.specs.Fmt.{decimal}
 use Rattle.std.specs.Prelude.{codes}
-use Rattle.ffrpc.specs.Replay.{EndsLine}
+use Rattle.ffrpc.specs.Outside.{EndsLine}
 
 pub EndsLine-append : (these those : List ℕ) → EndsLine these → EndsLine those → EndsLine (these ++ those)
 EndsLine-append these those p (inl none) =
