@@ -4,16 +4,16 @@ use Rattle.std.proofs.Math.Nat.{suc-add}
 use Rattle.std.proofs.Math.Seq.{take-length, take-suc}
 use Rattle.std.proofs.lemmas.List.{take-append-drop}
 use Rattle.replay_model.specs.declared.event.Event.{Event}
+use Rattle.replay_model.specs.Lines.{EndsLine}
 use Rattle.replay_model.specs.World as model
 use Rattle.replay_model.specs.Script.{Script}
 use Rattle.replay_model.specs.Step.{step, outcome, run}
 use Rattle.replay_model.specs.Transcript.{transcript, lines, lines_from}
 use Rattle.replay_world.specs.Stands.{Stands}
 use Rattle.replay_world.specs.Stored.{Stored, load}
-use Rattle.ffrpc.specs.Outside.{Output, Wrote, EndsLine, Flushed}
+use Rattle.ffrpc.specs.Outside.{Output, Wrote, Flushed}
 use Rattle.ffrpc.specs.Replay.{world_of, PlayedInPart, WroteLines, WroteFront}
-use Rattle.ffrpc.proofs.Laws.{OnceLaw, Nothing, InTurn}
-use Rattle.ffrpc.proofs.LineEnds.{EndsLine-append, acts_end}
+use Rattle.ffrpc.proofs.Laws.{OnceLaw, Nothing, InTurn, WholeLines, LinesJoin}
 
 -- the first index events were played
 pub record Playing (s : Script) (index : ℕ) (world : Stored) (out : List ℕ) (old new : Output) : Type 0 where
@@ -51,16 +51,16 @@ lines_from-append w (x ∷ these) those =
     ap (λ more. lines w x ++ more) (lines_from-append (step w x) these those)
     ∙ sym (append_assoc (lines w x) (lines_from (step w x) these) (lines_from (run (step w x) these) those))
 
-lines_end : (w : model.World) (e : Event) → EndsLine (lines w e)
+lines_end : WholeLines → (w : model.World) (e : Event) → EndsLine (lines w e)
 unfolding lines
-lines_end w e = acts_end (outcome w e).acts
+lines_end whole w e = whole (outcome w e).acts
 
-pub Playing-event : (s : Script) (i : ℕ) (world world' : Stored) (events : List Event) (d : Event) (out out' : List ℕ) (old new : Output)
+pub Playing-event : WholeLines → LinesJoin → (s : Script) (i : ℕ) (world world' : Stored) (events : List Event) (d : Event) (out out' : List ℕ) (old new : Output)
     → Playing s i world out old new → i < length s.events → events ≡ s.events
     → out' ≡ out ++ lines (run (world_of s) (take i s.events)) (get_or events i d)
     → Stands world' (step (run (world_of s) (take i s.events)) (get_or events i d)) → load world' ≤ load world + 1000
     → Playing s (i + 1) world' out' old new
-Playing-event s i world world' events d out out' old new p below same printed stands small =
+Playing-event whole joins s i world world' events d out out' old new p below same printed stands small =
     let e : Event = get_or events i d in
     let at : model.World = run (world_of s) (take i s.events) in
     let one : e ∷ [] ≡ get_or s.events i d ∷ [] = ap (λ xs. get_or xs i d ∷ []) same in
@@ -72,7 +72,7 @@ Playing-event s i world world' events d out out' old new p below same printed st
       stands = subst (Stands world') (sym reached) stands;
       shown = p.shown;
       shown_ends = p.shown_ends;
-      out_ends = subst EndsLine (sym printed) (EndsLine-append out (lines at e) p.out_ends (lines_end at e));
+      out_ends = subst EndsLine (sym printed) (joins out (lines at e) p.out_ends (lines_end whole at e));
       written = p.written;
       still = p.still;
       printed =
@@ -90,14 +90,14 @@ front_ends out front after ends parts (inl none) = (inl none, subst EndsLine (pa
 front_ends out front after ends parts (inr none) =
     (subst EndsLine (parts ∙ ap (λ x. front ++ x) none ∙ append-nil front) ends, inl none)
 
-pub Playing-flush : InTurn → (s : Script) (i : ℕ) (world : Stored) (out out' : List ℕ) (old mid new : Output)
+pub Playing-flush : LinesJoin → InTurn → (s : Script) (i : ℕ) (world : Stored) (out out' : List ℕ) (old mid new : Output)
     → Playing s i world out old mid → Flushed out out' mid new → new.faults ≡ mid.faults → Playing s i world out' old new
-Playing-flush turn s i world out out' old mid new p f still =
+Playing-flush joins turn s i world out out' old mid new p f still =
     let ends : EndsLine f.front × EndsLine out' = front_ends out f.front out' p.out_ends f.parts f.none_or_all in
     record {
       stands = p.stands;
       shown = p.shown ++ f.front;
-      shown_ends = EndsLine-append p.shown f.front p.shown_ends ends.0;
+      shown_ends = joins p.shown f.front p.shown_ends ends.0;
       out_ends = ends.1;
       written = turn p.shown f.front old.written mid.written new.written p.written f.written;
       still = still ∙ p.still;

@@ -42,10 +42,6 @@ pub data WroteUnlessFailed (sure bytes : List ℕ) (old new : Output) : Type 0 w
   All : Wrote (sure ++ bytes) old new → new.faults ≡ old.faults → WroteUnlessFailed sure bytes old new
   Part : (count : ℕ) → Wrote (sure ++ take count bytes) old new → WriteFailed old new → WroteUnlessFailed sure bytes old new
 
--- whole lines, each with its newline
-abbrev pub EndsLine : List ℕ → Type 0
-EndsLine text = (text ≡ []) ⊎ ((front : List ℕ) × (text ≡ front ++ 10 ∷ []))
-
 -- what was kept was written, all of it or nothing
 pub record Flushed (before after : List ℕ) (old new : Output) : Type 0 where
   pub front : List ℕ

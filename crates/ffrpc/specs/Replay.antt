@@ -3,6 +3,7 @@ use Rattle.std.specs.Prelude.{◌≡◌, ℕ, ◌≤◌, ◌<◌, List, [], ◌+
 use Rattle.script_text.specs.declared.script.Script.{Script as Parsed}
 use Rattle.script_text.specs.Reading.{script_of}
 use Rattle.replay_model.specs.declared.event.Event.{Event}
+use Rattle.replay_model.specs.Lines.{EndsLine}
 use Rattle.replay_model.specs.Script.{Script, IsScript}
 use Rattle.replay_model.specs.World.{World, first_world}
 use Rattle.replay_model.specs.Step.{run}
@@ -10,7 +11,7 @@ use Rattle.replay_model.specs.Transcript.{lines_from, transcript, last_world}
 use Rattle.replay_model.specs.Once.{Once}
 use Rattle.ffrpc.specs.declared.status.Status.{Status}
 use Rattle.ffrpc.specs.declared.status.Status.TheVariants as status
-use Rattle.ffrpc.specs.Outside.{Input, Output, ReadFailed, WriteFailed, ReadToEnd, Wrote, WroteUnlessFailed, EndsLine}
+use Rattle.ffrpc.specs.Outside.{Input, Output, ReadFailed, WriteFailed, ReadToEnd, Wrote, WroteUnlessFailed}
 use Rattle.ffrpc.specs.Status.{fault_line}
 
 -- the most bytes of input

@@ -14,6 +14,7 @@ use crate::fault_line::fault_line_of;
 use crate::status::Status;
 use ff_io::{Sink, Source, WriteFailed, read_all, told_laws, write_all};
 use once_law::once_after_any_events;
+use replay_model::acts_print_whole_lines;
 use replay_world::{Script, World, parse_script};
 use script_text::one_reading;
 use std::alloc::Global;
@@ -91,6 +92,7 @@ fn play<K: Sink>(alloc: Global, script: &Script, sink: &mut K) -> Result<(), Sta
 {
     once_after_any_events();
     told_laws();
+    acts_print_whole_lines();
     let mut world = World::make(alloc, script.small, script.long)?;
     let mut out = Vec::new(alloc);
     for event in script.events.as_slice() {
