@@ -16,9 +16,9 @@ use crate::server::ServerMachine;
 use ff_io::Station;
 use replay_lines::{Counts, put_discard, put_ready, put_return};
 use replay_model::Discard;
+use replay_model::limits::FIRST_CLIENT;
 use replay_packets::{Arrived, SERVER, arrive};
 use rpc_header::{CallId, MAX_DATA};
-use script_text::FIRST_CLIENT;
 use std::alloc::{AllocError, Global};
 
 /// What becomes of a frame that comes to a machine.
@@ -81,7 +81,7 @@ fn hand_to_client<'a>(clients: &mut Vec<ClientMachine>, packet: &Arrived<'a>) ->
     requires { length packet.now.payload.now ≤ MAX_DATA }
     ensures outcome { (w : model.World) (k : ℕ) → TakenAs (record w { clients = clients.new.items }) k result
         (step.client_takes (record w { clients = clients.old.items }) k (packet_of packet.now)
-        (model.numbered model.first_client clients.old.items packet.now.to.machine)) }
+        (model.numbered FIRST_CLIENT clients.old.items packet.now.to.machine)) }
     ensures short { IsShort result }
 {
     match take_at_client(clients, packet) {
@@ -99,7 +99,7 @@ fn hand_to_client<'a>(clients: &mut Vec<ClientMachine>, packet: &Arrived<'a>) ->
 /// The client that a packet goes to takes it.
 fn take_at_client(clients: &mut Vec<ClientMachine>, packet: &Arrived) -> Took
     ensures { (w : model.World) (k : ℕ) → step.client_takes (record w { clients = clients.old.items }) k (packet_of packet.now)
-        (model.numbered model.first_client clients.old.items packet.now.to.machine)
+        (model.numbered FIRST_CLIENT clients.old.items packet.now.to.machine)
         ≡ took_in (record w { clients = clients.new.items }) k (packet_of packet.now) result }
 {
     let machine = packet.to.machine;

@@ -14,7 +14,7 @@ ghost use Rattle.replay_world.specs.Stored.{load};
 ghost use Rattle.replay_world.specs.Stands.{Stands};
 ghost use Rattle.replay_world.specs.Played.{world_with, Keeps, Plays};
 
-use crate::client::{CLIENTS, Called, ClientMachine};
+use crate::client::{Called, ClientMachine};
 use crate::delivery::{hand_over, tell};
 use crate::server::{ServerMachine, Worked};
 use call_rules::Did;
@@ -23,9 +23,9 @@ use replay_lines::{
     Counts, RunLine, put_end, put_frame, put_idle, put_impossible, put_packet, put_runs, put_start,
     put_too_fast, put_work,
 };
+use replay_model::limits::{CLIENTS, FIRST_CLIENT, LAST_CLIENT, LAST_PROCESS};
 use replay_model::{CallWord, Event};
 use replay_packets::{Outgoing, Sent};
-use script_text::FIRST_CLIENT;
 use std::alloc::{AllocError, Global};
 use std::marker::Model;
 
@@ -107,11 +107,11 @@ impl World {
         word: CallWord,
         out: &mut Vec<u8>,
     ) -> Result<(), AllocError>
-        requires machine { (2 ≤ machine) × (machine ≤ 9) }
+        requires machine { (FIRST_CLIENT ≤ machine) × (machine ≤ LAST_CLIENT) }
         requires process { 1 ≤ process }
         requires few { load self.old < 2 ^ 62 }
         ensures played { (bag : List Packet) (r : Records) → Keeps self.old bag r → OnOk result (Plays out.old.items out.new.items self.new r
-            (step.call_event (world_with self.old bag r) machine process (model.numbered model.first_client self.old.clients machine) word)) }
+            (step.call_event (world_with self.old bag r) machine process (model.numbered FIRST_CLIENT self.old.clients machine) word)) }
         ensures load { OnOk result (load self.new ≤ load self.old + 1) }
     {
         let place = usize::from(machine - FIRST_CLIENT);
