@@ -2,7 +2,7 @@
 use Rattle.std.proofs.Common.{◌≡◌, ◌≤◌, ◌<◌, ℕ, Bool, true, false, cond, if◌then◌else◌, IsSome, List, length, set, Option, Some, None, is_none, nat_lt, refl, ap, sym, ◌∙◌}
 use Rattle.std.specs.Prelude.{option_and_then}
 use Rattle.std.specs.Option.{option_map}
-use Rattle.std.proofs.lemmas.Bool.{false≢true}
+use Rattle.std.proofs.lemmas.Bool.{false_from_ne_true, false≢true}
 use Rattle.std.proofs.lemmas.List.Quantifiers.{position-Some}
 use Rattle.rpc_header.specs.declared.Export.{Export}
 use Rattle.binder.specs.declared.interface.InterfaceName.{InterfaceName}
@@ -13,7 +13,7 @@ use Rattle.binder.specs.Exports.{Exports, accepts, binding_at, export_fault, exp
 use Rattle.binder.specs.Sound.{AreSound, NamesDiffer}
 use Rattle.binder.proofs.Judging.{judged_row, may_export}
 use Rattle.binder.proofs.Kept.{both, names-taken, place-freed, place-taken}
-use Rattle.binder.proofs.Places.{free-row, free-within, own_name, place-is, place-within, row-set_other, row-set_same}
+use Rattle.binder.proofs.Places.{free-row, free-within, no_place, own_name, place-is, place-none, place-within, row-set_other, row-set_same, same_name}
 
 -- rows that agree where a name is give it the same binding
 look-at : (rows after : List (Option ExportRow)) (place : Option ℕ) → ((i : ℕ) → place ≡ Some i → row_at after i ≡ row_at rows i)
@@ -146,3 +146,56 @@ pub others_withdrawn : (boot : ℕ) (e : Exports) (name other : InterfaceName) �
     → look_up (withdrawn e name).rows other ≡ look_up e.rows other
 unfolding withdrawn
 others_withdrawn boot e name other h differ = others_freed e.rows name other (place_of e.rows name) h.names refl differ
+
+-- the binding to a row is that of its export
+bound : (r : Option ExportRow) (i : ℕ) (name : InterfaceName) (export : Export) → is_row_of name r ≡ true
+    → option_map (λ (row : ExportRow). record { identifier = row.identifier; index = i }) r ≡ Some export
+    → (row : ExportRow) × (r ≡ Some row) × (row.name ≡ name) × (row.identifier ≡ export.identifier)
+bound None i name export mine e = absurd (cc)
+bound (Some row) i name export mine e =
+    let made : Export = record { identifier = row.identifier; index = i } in
+    let same : made ≡ export = cc in
+    (row, refl, sym (same_name name row.name mine), ap (λ (x : Export). x.identifier) same)
+
+found_at : (rows : List (Option ExportRow)) (name : InterfaceName) (export : Export) (place : Option ℕ) → place_of rows name ≡ place
+    → option_and_then (binding_at rows) place ≡ Some export
+    → (row : ExportRow) × (row_at rows export.index ≡ Some row) × (row.name ≡ name) × (row.identifier ≡ export.identifier)
+found_at rows name export None at e = absurd (cc)
+found_at rows name export (Some i) at e =
+    let w = bound (row_at rows i) i name export (place-is rows name i at) e in
+    let index : export.index ≡ i = binding-index (row_at rows i) i export e in
+    (w.0, ap (row_at rows) index ∙ w.1, w.2, w.3)
+
+pub found_in_row : (rows : List (Option ExportRow)) (name : InterfaceName) (export : Export) → look_up rows name ≡ Some export
+    → (row : ExportRow) × (row_at rows export.index ≡ Some row) × (row.name ≡ name) × (row.identifier ≡ export.identifier)
+unfolding look_up
+found_in_row rows name export e = found_at rows name export (place_of rows name) refl e
+
+used_row : (rows : List (Option ExportRow)) (i : ℕ) (name : InterfaceName) (r : Option ExportRow) → row_at rows i ≡ r → is_row_of name r ≡ true
+    → binding_at rows i ≡ None → ⊥
+used_row rows i name None at mine e = false≢true mine
+used_row rows i name (Some row) at mine e =
+    let made : Option ExportRow → Option Export = λ r. option_map (λ (row : ExportRow). record { identifier = row.identifier; index = i }) r in
+    let some : made (Some row) ≡ None = sym (ap made at) ∙ e in
+    absurd (cc)
+
+absent_at : (rows : List (Option ExportRow)) (name : InterfaceName) (place : Option ℕ) → place_of rows name ≡ place
+    → option_and_then (binding_at rows) place ≡ None → (i : ℕ) (row : ExportRow) → row_at rows i ≡ Some row → row.name ≡ name → ⊥
+absent_at rows name None at e i row here same =
+    let mine : is_row_of name (row_at rows i) ≡ true =
+    ap (is_row_of name) here ∙ ap (is_same_name name) same ∙ own_name name in
+    false≢true (sym (place-none rows name i at) ∙ mine)
+absent_at rows name (Some j) at e i row here same = absurd (used_row rows j name (row_at rows j) refl (place-is rows name j at) e)
+
+not_row : (r : Option ExportRow) (name : InterfaceName) → ((row : ExportRow) → r ≡ Some row → row.name ≡ name → ⊥) → is_row_of name r ≡ false
+not_row None name h = refl
+not_row (Some row) name h = false_from_ne_true (is_same_name name row.name) (λ e. h row refl (sym (same_name name row.name e)))
+
+pub not_in_rows : (rows : List (Option ExportRow)) (name : InterfaceName)
+    → (look_up rows name ≡ None → (i : ℕ) (row : ExportRow) → row_at rows i ≡ Some row → row.name ≡ name → ⊥)
+    × (((i : ℕ) (row : ExportRow) → row_at rows i ≡ Some row → row.name ≡ name → ⊥) → look_up rows name ≡ None)
+unfolding look_up
+not_in_rows rows name = (
+  λ e. absent_at rows name (place_of rows name) refl e,
+  λ h. look_up-none rows name (no_place rows name (λ i. not_row (row_at rows i) name (h i))),
+)

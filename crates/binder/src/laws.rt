@@ -1,11 +1,11 @@
 //! What holds of names, and of the exports of a server. Each function here does nothing: its contract is
 //! the law.
 
-ghost use Rattle.std.specs.Prelude.{◌≡◌, ◌≤◌, ◌<◌, ◌↔◌, ◌⊎◌, ℕ, List, Some, None, false, IsTrue, IsSome, is_none, length, nat_lt, if◌then◌else◌};
+ghost use Rattle.std.specs.Prelude.{◌≡◌, ◌≤◌, ◌<◌, ◌↔◌, ℕ, List, Option, Some, None, false, IsTrue, IsSome, length, nat_lt, if◌then◌else◌};
 ghost use Rattle.rpc_header.specs.declared.Export.{Export};
 ghost use Rattle.binder.specs.declared.interface.InterfaceName.{InterfaceName};
 ghost use Rattle.binder.specs.declared.row.ExportRow.{ExportRow};
-ghost use Rattle.binder.specs.Exports.{Exports, accepts, booted, export_fault, exported, look_up, next_export, place_of, row_at, withdrawn};
+ghost use Rattle.binder.specs.Exports.{Exports, accepts, booted, export_fault, exported, look_up, next_export, row_at, withdrawn};
 ghost use Rattle.binder.specs.History.{AreRisingFrom, Change, after, identifiers};
 ghost use Rattle.binder.specs.Interfaces.{bind_data, is_interface_name, is_same_name, name_in};
 ghost use Rattle.binder.specs.Sound.{AreSound};
@@ -24,6 +24,14 @@ pub fn bind_data_is_read_in_one_way()
 /// Names that compare as the same are the same.
 pub fn same_names_are_equal()
     ensures { (a b : InterfaceName) → IsTrue (is_same_name a b) ↔ (a ≡ b) }
+{}
+
+/// A name is found where a row has it, and it isn't found exactly where no row has it.
+pub fn a_name_is_found_in_its_row()
+    ensures found { (rows : List (Option ExportRow)) (name : InterfaceName) (export : Export) → look_up rows name ≡ Some export
+        → (row : ExportRow) × (row_at rows export.index ≡ Some row) × (row.name ≡ name) × (row.identifier ≡ export.identifier) }
+    ensures none { (rows : List (Option ExportRow)) (name : InterfaceName) → (look_up rows name ≡ None)
+        ↔ ((i : ℕ) (row : ExportRow) → row_at rows i ≡ Some row → ¬ (row.name ≡ name)) }
 {}
 
 /// A call is accepted exactly where the row of its binding has that very export, with that procedure.
