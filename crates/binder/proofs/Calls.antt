@@ -2,7 +2,6 @@
 use Rattle.std.proofs.Common.{◌≡◌, ◌+◌, ℕ, List, set, Option, Some, None, if◌then◌else◌, is_some, unwrap_or, refl, ap, sym, ◌∙◌}
 use Rattle.std.specs.Prelude.{option_and_then}
 use Rattle.indexmap.specs.IndexMap.{IndexMap}
-use Rattle.rpc_header.specs.declared.Export.{Export}
 use Rattle.binder.specs.declared.interface.InterfaceName.{InterfaceName}
 use Rattle.binder.specs.declared.row.ExportFault.{ExportFault}
 use Rattle.binder.specs.declared.row.ExportRow.{ExportRow}

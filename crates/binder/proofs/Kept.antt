@@ -1,5 +1,5 @@
 -- What holds of the exports at all times: at boot, and after each call.
-use Rattle.std.proofs.Common.{◌≡◌, ◌<◌, ◌≤◌, ◌+◌, ◌^◌, ℕ, zero, suc, Bool, true, false, cond, IsTrue, List, [], ◌∷◌, length, get_or, set, replicate, Option, Some, None, refl, ap, sym, subst, ◌∙◌, ◌⊎◌, inl, inr, arith}
+use Rattle.std.proofs.Common.{◌≡◌, ◌<◌, ◌≤◌, ◌+◌, ◌^◌, ℕ, zero, suc, Bool, true, false, cond, List, length, get_or, set, replicate, Option, Some, None, refl, ap, sym, ◌∙◌, arith}
 use Rattle.std.proofs.lemmas.List.{length-set}
 use Rattle.std.proofs.lemmas.Bool.{cases_Bool, cases_eq, false_from_ne_true, false≢true}
 use Rattle.indexmap.specs.IndexMap.{IndexMap}
@@ -7,11 +7,12 @@ use Rattle.binder.specs.declared.interface.InterfaceName.{InterfaceName}
 use Rattle.binder.specs.declared.row.ExportRow.{ExportRow}
 use Rattle.binder.specs.Interfaces.{is_same_name}
 use Rattle.binder.specs.Exports.{free_place, is_row_of, place_of, row_at, row_count}
-use Rattle.binder.specs.Index.{IsKept, NamesDiffer, place_in}
+use Rattle.binder.specs.Index.{IsKept, place_in}
+use Rattle.binder.specs.Sound.{NamesDiffer}
 use Rattle.binder.proofs.Places.{by_cases, free-row, free-within, no_place, own_name, place-found, place-is, place-none, place-set, place-within, row-set_other, row-set_same, same_name, same_name-symm}
 
 -- free rows have no names
-free_rows : (n i : ℕ) → get_or {A = Option ExportRow} (replicate n None) i None ≡ None
+pub free_rows : (n i : ℕ) → get_or {A = Option ExportRow} (replicate n None) i None ≡ None
 free_rows zero i = refl
 free_rows (suc n) zero = refl
 free_rows (suc n) (suc i) = free_rows n i
@@ -51,7 +52,7 @@ names-taken rows i row inside absent apart =
     }
 
 -- two names of one row are the same
-both : (row : Option ExportRow) (a b : InterfaceName) → is_row_of a row ≡ true → is_row_of b row ≡ true → is_same_name a b ≡ true
+pub both : (row : Option ExportRow) (a b : InterfaceName) → is_row_of a row ≡ true → is_row_of b row ≡ true → is_same_name a b ≡ true
 both None a b h g = absurd (false≢true h)
 both (Some row) a b h g =
     let first : a ≡ row.name = same_name a row.name h in

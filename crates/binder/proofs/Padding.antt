@@ -5,7 +5,7 @@ use Rattle.std.proofs.lemmas.Bool.Decides.{nat_tests}
 use Rattle.binder.specs.Names.{is_name, name_limit}
 use Rattle.binder.specs.Padded.{IsPadded}
 
-name_fits : (name : List ℕ) → IsTrue (is_name name) → length name ≤ name_limit
+pub name_fits : (name : List ℕ) → IsTrue (is_name name) → length name ≤ name_limit
 name_fits name h = grind (arith, nat_tests)
 
 padded_zeros : (name : List ℕ) → IsTrue (is_name name)

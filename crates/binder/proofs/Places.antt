@@ -1,11 +1,11 @@
 -- Where a name's row is, in rows whose names differ, and after a row was written.
-use Rattle.std.proofs.Common.{◌≡◌, ◌≢◌, ◌<◌, ◌≤◌, ◌&&◌, ℕ, Bool, true, false, cond, IsTrue, List, length, get_or, set, Option, Some, None, nat_lt, nat_eq, refl, ap, sym, subst, ◌∙◌, ◌⊎◌, inl, inr, ⊎_elim, is_none, arith}
+use Rattle.std.proofs.Common.{◌≡◌, ◌<◌, ◌≤◌, ◌&&◌, ℕ, Bool, true, false, cond, List, length, get_or, set, Option, Some, None, nat_lt, nat_eq, refl, ap, sym, ◌∙◌, ◌⊎◌, ⊎_elim, is_none, arith}
 use Rattle.std.specs.List.{position, position_or_len}
 use Rattle.std.proofs.lemmas.List.{get_or-set_other, get_or-set_same, get_or_past, length-set}
 use Rattle.std.proofs.lemmas.List.Folds.{position_or_len-set}
 use Rattle.std.proofs.lemmas.List.Sums.{fails_before_first, position_or_len_is}
 use Rattle.std.proofs.lemmas.List.Quantifiers.{position-Some}
-use Rattle.std.proofs.lemmas.Bool.{and_parts, cases_Bool, cases_eq, cases_lt, false_from_ne_true, false≢true}
+use Rattle.std.proofs.lemmas.Bool.{and_parts, cases_lt, false_from_ne_true, false≢true}
 use Rattle.std.proofs.lemmas.Bool.Decides.{nat_tests}
 use Rattle.std.proofs.lemmas.Cmp.{nat_list_eq_equiv}
 use Rattle.std.specs.Cmp.Lexicographic.{pointwise}
@@ -14,7 +14,7 @@ use Rattle.binder.specs.declared.row.ExportRow.{ExportRow}
 use Rattle.binder.specs.Same.{same_bytes}
 use Rattle.binder.specs.Interfaces.{is_same_name}
 use Rattle.binder.specs.Exports.{free_place, is_row_of, place_of, row_at}
-use Rattle.binder.specs.Index.{NamesDiffer}
+use Rattle.binder.specs.Sound.{NamesDiffer}
 
 pub by_cases : {A B C : Type 0} → A ⊎ B → (A → C) → (B → C) → C
 by_cases s f g = ⊎_elim f g s

@@ -1,6 +1,6 @@
 -- The exports of a server: sixteen rows and the next identifier, and what each call makes of them.
 -- A binding is the index of a row and an identifier, after Birrell and Nelson's RPC.
-use Rattle.std.specs.Prelude.{ℕ, ◌+◌, ◌==◌, nat_lt, Bool, false, true, List, replicate, Option, Some, None, is_some, is_none, unwrap_or, option_and_then, slice_index_or, slice_set, if◌then◌else◌}
+use Rattle.std.specs.Prelude.{ℕ, ◌+◌, ◌==◌, nat_lt, Bool, false, List, replicate, Option, Some, None, is_some, is_none, unwrap_or, option_and_then, slice_index_or, slice_set, if◌then◌else◌}
 use Rattle.std.specs.List.{position}
 use Rattle.std.specs.Option.{option_map}
 use Rattle.rpc_header.specs.declared.Export.{Export}

@@ -1,5 +1,5 @@
 -- Names of interfaces, and the data of a Bind that asks for one.
-use Rattle.std.specs.Prelude.{ℕ, ◌&&◌, nat_eq, Bool, IsTrue, List, [], ◌∷◌, ◌++◌, length, take, drop, Option, Some, None, if◌then◌else◌}
+use Rattle.std.specs.Prelude.{ℕ, ◌&&◌, nat_eq, Bool, List, [], ◌∷◌, ◌++◌, length, take, drop, Option, Some, None, if◌then◌else◌}
 use Rattle.std.specs.Cmp.Lexicographic.{pointwise}
 use Rattle.binder.specs.declared.interface.InterfaceName.{InterfaceName}
 use Rattle.binder.specs.Names.{is_name}

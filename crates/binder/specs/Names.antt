@@ -1,5 +1,5 @@
 -- Which bytes are a name, and when two names are the same.
-use Rattle.std.specs.Prelude.{ℕ, ◌≡◌, ◌≤◌, ◌-◌, ◌&&◌, ◌||◌, nat_le, nat_eq, Bool, false, IsTrue, List, [], ◌∷◌, length, take, drop, replicate, Option, Some, None, if◌then◌else◌}
+use Rattle.std.specs.Prelude.{ℕ, ◌&&◌, ◌||◌, nat_le, Bool, false, List, [], ◌∷◌, length, Option, Some, None, if◌then◌else◌}
 use Rattle.std.specs.List.{list_all}
 
 -- the most bytes of a name

@@ -1,7 +1,7 @@
 -- Names whose bytes are the same have the same hash.
 use Rattle.std.specs.Prelude.{ℕ, ◌≡◌, IsTrue, List, nat_eq, true}
 use Rattle.std.proofs.Common.{ap, refl}
-use lib.Pointwise.{pointwise}
+use Rattle.std.specs.Cmp.Lexicographic.{pointwise}
 use Rattle.std.proofs.lemmas.Slice.Eq.{slice_eq-Decides}
 use Rattle.std.proofs.lemmas.Bool.Decides.{Decides-eqb}
 use Rattle.std.specs.Hash as fed

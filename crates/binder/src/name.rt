@@ -37,8 +37,8 @@ impl Model for Name {
 impl PartialEq for Name {
     ghost use Rattle.std.specs.Prelude.{nat_eq};
     ghost use Rattle.std.specs.Cmp.{partial_equiv_from_equiv};
+    ghost use Rattle.std.specs.Cmp.Lexicographic.{pointwise};
     ghost use Rattle.std.proofs.lemmas.Cmp.{nat_list_eq_equiv};
-    ghost use lib.Pointwise.{pointwise};
 
     ghost eq = { pointwise nat_eq };
 

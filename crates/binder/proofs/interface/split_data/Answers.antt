@@ -1,6 +1,5 @@
-use Rattle.std.proofs.Common.{◌≡◌, ◌==◌, ◌++◌, List, ℕ, [], IfNone, None, Option, Bor, length, subst, sym, ap, ◌∙◌, false, true, refl}
+use Rattle.std.proofs.Common.{◌≡◌, ◌==◌, List, ℕ, IfNone, None, Option, Bor, length, subst, sym, ap, ◌∙◌}
 use Rattle.std.proofs.lemmas.Bool.{false≢true}
-use Rattle.binder.specs.Interfaces.{counted}
 use Rattle.binder.proofs.Data.{more_than_two_parts, not_two_parts}
 use Rattle.binder.proofs.interface.split_data.Goals as goal
 

@@ -1,6 +1,6 @@
-use Rattle.std.proofs.Common.{◌≡◌, ◌<◌, ◌^◌, None, sym, ap, ◌∙◌, arith}
+use Rattle.std.proofs.Common.{◌<◌, ◌^◌, ap, ◌∙◌, arith}
 use Rattle.binder.specs.declared.row.ExportRow.{ExportRow}
-use Rattle.binder.specs.Exports.{Exports, exported, place_of}
+use Rattle.binder.specs.Exports.{Exports, exported}
 use Rattle.binder.proofs.Calls.{absent, exported_is}
 use Rattle.binder.proofs.Kept.{kept_exported}
 use Rattle.binder.proofs.exports.Exports.export.Goals as goal

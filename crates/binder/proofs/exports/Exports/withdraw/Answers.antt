@@ -1,5 +1,5 @@
-use Rattle.std.proofs.Common.{◌≡◌, ℕ, List, Option, Some, None, set, sym, ap, ◌∙◌, subst}
-use Rattle.binder.specs.Exports.{Exports, look_up, place_of, withdrawn}
+use Rattle.std.proofs.Common.{Some, None, sym, ap, ◌∙◌}
+use Rattle.binder.specs.Exports.{Exports, look_up, withdrawn}
 use Rattle.binder.proofs.Calls.{found, not_found, withdrawn_is}
 use Rattle.binder.proofs.Kept.{kept_withdrawn}
 use Rattle.binder.proofs.exports.Exports.withdraw.Goals as goal
