@@ -1,16 +1,16 @@
 -- A script that is being played: how far, what is kept and what was written.
-use Rattle.std.proofs.Common.{◌≡◌, ◌⊎◌, ℕ, ◌+◌, ◌*◌, ◌≤◌, ◌<◌, List, [], ◌∷◌, ◌++◌, length, take, drop, get_or, Option, refl, sym, ap, subst, ◌∙◌, inl, inr, append_assoc, append-nil, arith, add-one, zero-add}
-use Rattle.std.proofs.Math.Nat.{suc-add}
+use Rattle.std.proofs.Common.{◌≡◌, ◌⊎◌, ℕ, ◌+◌, ◌*◌, ◌<◌, List, [], ◌∷◌, ◌++◌, length, take, drop, get_or, refl, sym, ap, subst, ◌∙◌, inl, inr, append_assoc, append-nil, arith, add-one}
 use Rattle.std.proofs.Math.Seq.{take-length, take-suc}
 use Rattle.std.proofs.lemmas.List.{take-append-drop}
 use Rattle.replay_model.specs.declared.event.Event.{Event}
 use Rattle.replay_model.specs.Lines.{EndsLine}
+use Rattle.replay_model.specs.Record.{Counts, counts_of, no_records}
 use Rattle.replay_model.specs.World as model
 use Rattle.replay_model.specs.Script.{Script}
 use Rattle.replay_model.specs.Step.{step, outcome, run}
 use Rattle.replay_model.specs.Transcript.{transcript, lines, lines_from}
 use Rattle.replay_world.specs.Stands.{Stands}
-use Rattle.replay_world.specs.Stored.{Stored, load}
+use Rattle.replay_world.specs.Stored.{Stored, AllBelow, RoseByAtMost}
 use Rattle.ffrpc.specs.Outside.{Output, Wrote, Flushed}
 use Rattle.ffrpc.specs.Replay.{world_of, PlayedInPart, WroteLines, WroteFront}
 use Rattle.ffrpc.proofs.Laws.{OnceLaw, Nothing, InTurn, WholeLines, LinesJoin}
@@ -25,11 +25,27 @@ pub record Playing (s : Script) (index : ℕ) (world : Stored) (out : List ℕ) 
   pub written : Wrote shown old new
   pub still : new.faults ≡ old.faults
   pub printed : lines_from (world_of s) (take index s.events) ≡ shown ++ out
-  pub small : load world ≤ 1000 * index
+  pub small : AllBelow (1000 * index + 1) world
+
+-- nothing was sent or counted yet
+below_one : (world : Stored) → world.bag ≡ [] → world.counts ≡ counts_of no_records → AllBelow 1 world
+below_one world bag counts =
+    let packets : length world.bag ≡ 0 = ap length bag in
+    let runs : world.counts.runs ≡ 0 = ap (λ (c : Counts). c.runs) counts in
+    let returned : world.counts.returned ≡ 0 = ap (λ (c : Counts). c.returned) counts in
+    let signalled : world.counts.signalled ≡ 0 = ap (λ (c : Counts). c.signalled) counts in
+    let failed : world.counts.failed ≡ 0 = ap (λ (c : Counts). c.failed) counts in
+    let refused : world.counts.refused ≡ 0 = ap (λ (c : Counts). c.refused) counts in
+    (omega (arith, packets), omega (arith, runs), omega (arith, returned), omega (arith, signalled), omega (arith, failed), omega (arith, refused))
+
+-- one more event
+below_more : (i : ℕ) (old new : Stored) → AllBelow (1000 * i + 1) old → RoseByAtMost 1000 old new → AllBelow (1000 * (i + 1) + 1) new
+below_more i old new b r =
+    (omega (arith, b.0, r.0), omega (arith, b.1, r.1.0), omega (arith, b.2, r.1.1), omega (arith, b.3, r.1.2), omega (arith, b.4, r.1.3), omega (arith, b.5, r.1.4))
 
 pub Playing-start : Nothing → (s : Script) (world : Stored) (x : Output) → Stands world (model.first_world s.small s.long)
-    → load world ≡ 0 → Playing s 0 world [] x x
-Playing-start nothing s world x stands empty = record {
+    → world.bag ≡ [] → world.counts ≡ counts_of no_records → Playing s 0 world [] x x
+Playing-start nothing s world x stands bag counts = record {
   stands = stands;
   shown = [];
   shown_ends = inl refl;
@@ -37,7 +53,7 @@ Playing-start nothing s world x stands empty = record {
   written = nothing x.written;
   still = refl;
   printed = refl;
-  small = omega (arith, empty);
+  small = below_one world bag counts;
 }
 
 -- the events so far, and one more
@@ -58,7 +74,7 @@ lines_end whole w e = whole (outcome w e).acts
 pub Playing-event : WholeLines → LinesJoin → (s : Script) (i : ℕ) (world world' : Stored) (events : List Event) (d : Event) (out out' : List ℕ) (old new : Output)
     → Playing s i world out old new → i < length s.events → events ≡ s.events
     → out' ≡ out ++ lines (run (world_of s) (take i s.events)) (get_or events i d)
-    → Stands world' (step (run (world_of s) (take i s.events)) (get_or events i d)) → load world' ≤ load world + 1000
+    → Stands world' (step (run (world_of s) (take i s.events)) (get_or events i d)) → RoseByAtMost 1000 world world'
     → Playing s (i + 1) world' out' old new
 Playing-event whole joins s i world world' events d out out' old new p below same printed stands small =
     let e : Event = get_or events i d in
@@ -81,7 +97,7 @@ Playing-event whole joins s i world world' events d out out' old new p below sam
           ∙ ap (λ x. (p.shown ++ out) ++ x) (append-nil (lines at e))
           ∙ append_assoc p.shown out (lines at e)
           ∙ ap (λ x. p.shown ++ x) (sym printed);
-      small = omega (arith, p.small, small);
+      small = below_more i world world' p.small small;
     }
 
 -- the front that was written ends a line, and so does what is kept

@@ -1,5 +1,5 @@
 -- From what the parts of `replay` say to what its status says.
-use Rattle.std.proofs.Common.{◌≡◌, ℕ, zero, suc, ◌≤◌, List, [], ◌++◌, take, refl, ap, subst, ◌∙◌, inl, append-nil, arith}
+use Rattle.std.proofs.Common.{◌≡◌, ℕ, zero, suc, ◌≤◌, List, [], ◌++◌, take, refl, subst, ◌∙◌, inl, append-nil, arith}
 use Rattle.std.specs.Prelude.{Result, Ok, Err, OnOk, OnErr, ◌<◌, length}
 use Rattle.ff_io.specs.Count.{Rose}
 use Rattle.replay_model.specs.Script.{Script, IsScript}

@@ -1,5 +1,5 @@
 -- What is told around a call: what a source has left and a sink has written, where they tell it, and their counts of faults.
-use Rattle.std.specs.Prelude.{◌≡◌, ℕ, List, [], ◌∷◌, ◌++◌, take, Option, None, IfSome, ◌⊎◌}
+use Rattle.std.specs.Prelude.{◌≡◌, ℕ, List, [], ◌++◌, take, Option, None, IfSome, ◌⊎◌}
 use Rattle.ff_io.specs.Count.{Rose}
 use Rattle.ff_io.specs.Told.{Appended}
 

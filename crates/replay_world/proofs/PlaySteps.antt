@@ -18,7 +18,7 @@ use Rattle.replay_model.specs.Lines.{lines_of_act}
 use Rattle.replay_model.specs.Digests.{RunDigest, run_digest}
 use Rattle.replay_lines.specs.Counts.{counts_run, counts_return}
 use Rattle.replay_packets.specs.Sent.{SentFrame, sent_of}
-use Rattle.replay_world.specs.Stored.{Stored, stored_of}
+use Rattle.replay_world.specs.Stored.{Stored, RoseByAtMost, stored_of}
 use Rattle.replay_world.specs.Stands.{Stands}
 use Rattle.replay_world.specs.Played.{world_with, Keeps, Plays}
 use Rattle.replay_world.proofs.Numbered.{numbered-some, numbered-mapped}
@@ -128,3 +128,9 @@ applied {T} {E} result before after s new w e stands h =
     let Played : Stored → Type 0 = λ x. (bag : List Packet) (r : Records) → Keeps x bag r → OnOk result (Plays before after new r (outcome (world_with x bag r) e)) in
     on_ok_weaker result (λ p. (p.printed, record { agrees = p.stored }))
     (subst Played stands.agrees h w.bag w.records (record { frames = refl; runs = refl; counts = refl }))
+
+-- what has risen by at most one has risen by at most a thousand
+pub rose_more : {T E : Type 0} (result : Result T E) (old new : Stored) → OnOk result (RoseByAtMost 1 old new) → OnOk result (RoseByAtMost 1000 old new)
+rose_more {T} {E} result old new h =
+    on_ok_weaker result (λ (p : RoseByAtMost 1 old new).
+    (omega (arith, p.0), (omega (arith, p.1.0), omega (arith, p.1.1), omega (arith, p.1.2), omega (arith, p.1.3), omega (arith, p.1.4)))) h

@@ -9,7 +9,7 @@ ghost use Rattle.replay_world.specs.Client.{took_in};
 ghost use Rattle.replay_world.specs.Delivery.{TakenAs, IsShort};
 ghost use Rattle.replay_packets.specs.Packet.{packet_of};
 ghost use Rattle.replay_world.specs.Played.{world_with, Keeps, Plays};
-ghost use Rattle.replay_world.specs.Stored.{Stored, RoseByAtMostOne};
+ghost use Rattle.replay_world.specs.Stored.{Stored, CountsRose};
 
 use crate::client::{ClientMachine, Took};
 use crate::server::ServerMachine;
@@ -126,7 +126,7 @@ pub fn tell(
     requires short { IsShort taken }
     ensures played { (s : Stored) (bag : List packets.Packet) (r : Records) (o : step.Outcome) → Keeps (record s { counts = counts.old }) bag r
         → TakenAs (world_with s bag r) number taken.entry o → OnOk result (Plays out.old.items out.new.items (record s { counts = counts.new }) r o) }
-    ensures load { OnOk result (RoseByAtMostOne counts.old counts.new) }
+    ensures few { OnOk result (CountsRose 1 counts.old counts.new) }
 {
     match taken {
         Taken::Readied => put_ready(out, number),

@@ -10,7 +10,7 @@ ghost use Rattle.replay_model.specs.Lines.{lines_of_act};
 ghost use Rattle.replay_model.specs.Transcript.{lines};
 ghost use Rattle.replay_model.specs.Script.{InRange};
 ghost use Rattle.replay_packets.specs.Sent.{sent_of};
-ghost use Rattle.replay_world.specs.Stored.{load};
+ghost use Rattle.replay_world.specs.Stored.{AllBelow, RoseByAtMost};
 ghost use Rattle.replay_world.specs.Stands.{Stands};
 ghost use Rattle.replay_world.specs.Played.{world_with, Keeps, Plays};
 
@@ -23,7 +23,7 @@ use replay_lines::{
     Counts, RunLine, put_end, put_frame, put_idle, put_impossible, put_packet, put_runs, put_start,
     put_too_fast, put_work,
 };
-use replay_model::limits::{CLIENTS, FIRST_CLIENT, LAST_CLIENT, LAST_PROCESS};
+use replay_model::limits::{CLIENTS, FIRST_CLIENT, LAST_CLIENT};
 use replay_model::{CallWord, Event};
 use replay_packets::{Outgoing, Sent};
 use std::alloc::{AllocError, Global};
@@ -58,7 +58,8 @@ impl World {
         requires small { (2 ≤ small) × (small ≤ 3000) }
         requires long { long ≤ 1000 }
         ensures stands { IfOk result (λ world. Stands world (model.first_world small long)) }
-        ensures load { IfOk result (λ world. load world ≡ 0) }
+        ensures no_packet { IfOk result (λ world. world.bag ≡ []) }
+        ensures no_count { IfOk result (λ world. world.counts ≡ act.counts_of act.no_records) }
     {
         Ok(World {
             second: FIRST_SECOND,
@@ -78,10 +79,10 @@ impl World {
         out: &mut Vec<u8>,
     ) -> Result<(), AllocError>
         requires in_range { InRange event.now }
-        requires few { load self.old < 2 ^ 62 }
+        requires few { AllBelow (2 ^ 62) self.old }
         ensures step { (w : model.World) → Stands self.old w
             → OnOk result ((out.new.items ≡ out.old.items ++ lines w event.now) × Stands self.new (step.step w event.now)) }
-        ensures load { OnOk result (load self.new ≤ load self.old + 1000) }
+        ensures few { OnOk result (RoseByAtMost 1000 self.old self.new) }
     {
         match *event {
             Event::Call {
@@ -109,10 +110,10 @@ impl World {
     ) -> Result<(), AllocError>
         requires machine { (FIRST_CLIENT ≤ machine) × (machine ≤ LAST_CLIENT) }
         requires process { 1 ≤ process }
-        requires few { load self.old < 2 ^ 62 }
+        requires few { AllBelow (2 ^ 62) self.old }
         ensures played { (bag : List Packet) (r : Records) → Keeps self.old bag r → OnOk result (Plays out.old.items out.new.items self.new r
             (step.call_event (world_with self.old bag r) machine process (model.numbered FIRST_CLIENT self.old.clients machine) word)) }
-        ensures load { OnOk result (load self.new ≤ load self.old + 1) }
+        ensures few { OnOk result (RoseByAtMost 1 self.old self.new) }
     {
         let place = usize::from(machine - FIRST_CLIENT);
         if place >= self.clients.len() {
@@ -152,10 +153,10 @@ impl World {
     /// A packet comes to its receiver.
     fn deliver(&mut self, alloc: Global, number: u32, out: &mut Vec<u8>) -> Result<(), AllocError>
         requires number { 1 ≤ number }
-        requires few { load self.old < 2 ^ 62 }
+        requires few { AllBelow (2 ^ 62) self.old }
         ensures played { (bag : List Packet) (r : Records) → Keeps self.old bag r → OnOk result (Plays out.old.items out.new.items self.new r
             (step.deliver_event (world_with self.old bag r) number (model.packet_at bag number))) }
-        ensures load { OnOk result (load self.new ≤ load self.old + 1) }
+        ensures few { OnOk result (RoseByAtMost 1 self.old self.new) }
     {
         let place = number as usize - 1;
         if place >= self.bag.len() {
@@ -181,10 +182,10 @@ impl World {
         out: &mut Vec<u8>,
     ) -> Result<(), AllocError>
         requires number { 1 ≤ number }
-        requires few { load self.old < 2 ^ 62 }
+        requires few { AllBelow (2 ^ 62) self.old }
         ensures played { (bag : List Packet) (r : Records) → Keeps self.old bag r → OnOk result (Plays out.old.items out.new.items self.new r
             (step.damage_event (world_with self.old bag r) number bit (model.packet_at bag number))) }
-        ensures load { OnOk result (load self.new ≤ load self.old + 1) }
+        ensures few { OnOk result (RoseByAtMost 1 self.old self.new) }
     {
         let place = number as usize - 1;
         if place >= self.bag.len() {
@@ -220,10 +221,10 @@ impl World {
     /// One step of a worker.
     fn work(&mut self, alloc: Global, worker: u8, out: &mut Vec<u8>) -> Result<(), AllocError>
         requires worker { 1 ≤ worker }
-        requires few { load self.old < 2 ^ 62 }
+        requires few { AllBelow (2 ^ 62) self.old }
         ensures played { (bag : List Packet) (r : Records) → Keeps self.old bag r → OnOk result (Plays out.old.items out.new.items self.new r
             (step.work_event (world_with self.old bag r) worker (model.numbered 1 self.old.server.workers worker))) }
-        ensures load { OnOk result (load self.new ≤ load self.old + 1) }
+        ensures few { OnOk result (RoseByAtMost 1 self.old self.new) }
     {
         match self.server.work(alloc, worker)? {
             Worked::Impossible => put_impossible(out),
