@@ -9,9 +9,11 @@
 mod event;
 mod laws;
 pub mod limits;
+mod text_fault;
 
 pub use event::{ADD, CallWord, Event, NULL};
 pub use laws::fields_are_a_header;
+pub use text_fault::TextFault;
 
 #[cfg(test)]
 mod tests;

@@ -13,7 +13,7 @@ use ff_io::Station;
 use replay_model::CallWord;
 use replay_packets::{Arrived, Outgoing, SERVER};
 use rpc_header::{Activity, CallNumber, Export, number};
-use script_text::{FIRST_CLIENT, LAST_CLIENT, LAST_PROCESS};
+use replay_model::limits::{FIRST_CLIENT, LAST_CLIENT, LAST_PROCESS};
 use std::alloc::{AllocError, Global};
 use std::marker::Model;
 

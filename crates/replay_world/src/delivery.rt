@@ -17,7 +17,7 @@ use ff_io::Station;
 use replay_lines::{Counts, put_discard, put_ready, put_return};
 use replay_packets::{Arrived, Discard, SERVER, arrive};
 use rpc_header::{CallId, MAX_DATA};
-use script_text::FIRST_CLIENT;
+use replay_model::limits::FIRST_CLIENT;
 use std::alloc::{AllocError, Global};
 
 /// What becomes of a frame that comes to a machine.

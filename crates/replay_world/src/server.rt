@@ -16,7 +16,7 @@ use crate::worker::{Worker, WorkerState, unfit_for};
 use replay_lines::{Did, RunLine, Unfit};
 use replay_packets::{Arrived, Outgoing, Packet};
 use rpc_header::{Activity, Header, MAX_DATA};
-use script_text::{FIRST_CLIENT, LAST_CLIENT, LAST_PROCESS, LAST_WORKER};
+use replay_model::limits::{FIRST_CLIENT, LAST_CLIENT, LAST_PROCESS, LAST_WORKER};
 use std::alloc::{AllocError, Global};
 use std::collections::VecDeque;
 use std::marker::Model;

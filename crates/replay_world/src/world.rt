@@ -24,7 +24,7 @@ use replay_lines::{
 };
 use replay_model::{CallWord, Event};
 use replay_packets::{Outgoing, Sent};
-use script_text::FIRST_CLIENT;
+use replay_model::limits::FIRST_CLIENT;
 use std::alloc::{AllocError, Global};
 use std::marker::Model;
 
