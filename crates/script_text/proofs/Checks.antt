@@ -1,14 +1,14 @@
 -- Ordered tests, and the first that fails.
-use Rattle.std.proofs.Common.{◌≡◌, ◌≢◌, ℕ, ◌&&◌, Bool, true, false, not, cond, List, [], ◌∷◌, Option, Some, None, Ok, Err, refl, ap, sym, ◌∙◌}
+use Rattle.std.proofs.Common.{◌≡◌, ◌≢◌, ℕ, ◌&&◌, Bool, true, false, not, List, [], ◌∷◌, Option, Some, Ok, Err, refl, ap, sym, ◌∙◌}
 use Rattle.std.specs.Prelude.{filter}
 use Rattle.std.specs.Option.{option_or}
 use Rattle.std.specs.List.{list_all, AllByRecursion}
 use Rattle.std.specs.Str.{bytes_eq}
 use Rattle.std.proofs.lemmas.Bool.{and_left, false_from_ne_true}
 use Rattle.std.proofs.lemmas.Slice.Eq.{bytes_eq-Decides}
-use Rattle.replay_model.specs.Forms.{Form, forms}
+use Rattle.replay_model.specs.Forms.{forms}
 use Rattle.replay_model.specs.Script.{is_skipped, words_of}
-use Rattle.replay_model.specs.TextFault.{Above, Checks, first_of, form_checks, line_checks, fault_by, fitting, agreeing, playable, some, agrees, event_of, is_byte_of_line, is_pool}
+use Rattle.replay_model.specs.TextFault.{Above, Checks, first_of, form_checks, fault_by, fitting, agreeing, playable, some, agrees, event_of, is_byte_of_line, is_pool}
 use Rattle.replay_model.specs.declared.event.Event.{Event}
 use Rattle.replay_model.specs.declared.text_fault.TextFault.{TextFault}
 use Rattle.replay_model.specs.declared.text_fault.TextFault.TheVariants as fault

@@ -1,14 +1,14 @@
 -- A line that counts has no fault just where it spells an event, and it then spells that one.
-use Rattle.std.proofs.Common.{◌≡◌, ℕ, zero, suc, ◌<◌, ◌&&◌, ◌||◌, Bool, true, false, not, List, [], ◌∷◌, length, Option, Some, None, ap, arith, inl, inr, sym, refl, ◌∙◌}
+use Rattle.std.proofs.Common.{◌≡◌, ℕ, suc, ◌&&◌, ◌||◌, Bool, true, false, not, List, [], ◌∷◌, Option, Some, None, ap, arith, inl, inr, sym, refl, ◌∙◌}
 use Rattle.std.specs.Prelude.{filter, codes}
-use Rattle.std.specs.Option.{option_map, option_or, is_some}
+use Rattle.std.specs.Option.{option_map, is_some}
 use Rattle.std.specs.List.{list_all, Contains}
 use Rattle.std.specs.Str.{bytes_eq}
 use Rattle.std.proofs.lemmas.Bool.{and_parts, or_cases, not-true, both_ways, and_left, not_from_false, false_from_ne_true}
 use Rattle.std.proofs.lemmas.Slice.Eq.{bytes_eq-Decides}
 use Rattle.replay_model.specs.Forms.{Place, The, Number, Name, Value, Form, forms}
 use Rattle.replay_model.specs.Script.{Spells, words_of}
-use Rattle.replay_model.specs.TextFault.{Above, Checks, first_of, some, agrees, agreeing, playable, fitting, is_playable, is_fitting, is_pool, form_checks, line_checks, fault_by, event_by, event_of, words_fault, values_of}
+use Rattle.replay_model.specs.TextFault.{Above, first_of, some, agrees, agreeing, playable, fitting, is_playable, is_fitting, is_pool, form_checks, fault_by, event_by, event_of, words_fault, values_of}
 use Rattle.replay_model.specs.declared.event.Event.{Event}
 use Rattle.replay_model.specs.declared.text_fault.TextFault.TheVariants as fault
 use Rattle.script_text.specs.Reading.{fault_of_form, fault_of_whole}

@@ -1,15 +1,14 @@
 -- The table of forms: what holds of each row, by tests that compute over the table, and the one row that words fit.
-use Rattle.std.proofs.Common.{◌≡◌, ◌≢◌, ℕ, zero, suc, ◌<◌, ◌≤◌, ◌^◌, ◌&&◌, ◌||◌, ◌==◌, Bool, true, false, not, List, [], ◌∷◌, length, get_or, Option, Some, None, IsTrue, ap, arith, inl, inr, sym, refl, subst, ◌∙◌}
+use Rattle.std.proofs.Common.{◌≡◌, ℕ, zero, suc, ◌<◌, ◌^◌, ◌&&◌, ◌||◌, ◌==◌, Bool, true, false, not, List, [], ◌∷◌, length, get_or, Option, Some, None, IsTrue, ap, arith, inl, inr, sym, refl, subst, ◌∙◌}
 use Rattle.std.specs.Prelude.{filter, nat_lt}
 use Rattle.std.specs.Option.{option_or, is_some}
 use Rattle.std.specs.List.{list_all, Contains}
 use Rattle.std.specs.Str.{bytes_eq}
-use Rattle.std.proofs.lemmas.Bool.{and_parts, and_from, and_left, or_cases, ltb-true, eqb-true, eq-eqb, false_from_ne_true, both_ways, not-true}
+use Rattle.std.proofs.lemmas.Bool.{and_parts, and_from, or_cases, ltb-true, eqb-true, eq-eqb, false_from_ne_true, both_ways, not-true}
 use Rattle.std.proofs.lemmas.Slice.Eq.{bytes_eq-Decides}
 use Rattle.replay_model.specs.Forms.{Place, The, Number, Name, Value, Numeral, Text, Form, forms}
-use Rattle.replay_model.specs.Script.{IsNumber, Says, AllSay, is_name}
-use Rattle.replay_model.specs.TextFault.{agrees, may_begin, behind_first, is_playable, is_fitting, word_fault, words_fault, number_fault, name_fault, value, value_of, values_of}
-use Rattle.replay_model.specs.declared.text_fault.TextFault.{TextFault}
+use Rattle.replay_model.specs.Script.{AllSay, is_name}
+use Rattle.replay_model.specs.TextFault.{agrees, is_playable, is_fitting, words_fault, number_fault, name_fault, value, values_of}
 use Rattle.replay_model.specs.declared.text_fault.TextFault.TheVariants as fault
 use Rattle.script_text.proofs.Numbers.{spells_number, spelled_number, passes}
 

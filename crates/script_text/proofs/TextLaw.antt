@@ -1,16 +1,15 @@
 -- A text has no fault just where it is spelled by a script, which is that of its lines' events.
-use Rattle.std.proofs.Common.{◌≡◌, ℕ, ◌+◌, ◌||◌, ◌==◌, Bool, true, false, List, [], ◌∷◌, ◌++◌, Option, Some, None, MatchBool, ap, arith, sym, refl, subst, ◌∙◌}
+use Rattle.std.proofs.Common.{◌≡◌, ℕ, ◌+◌, Bool, true, false, List, [], ◌∷◌, ◌++◌, Option, Some, None, MatchBool, ap, arith, sym, refl, subst, ◌∙◌}
 use Rattle.std.specs.Prelude.{nat_eq, if◌then◌else◌}
-use Rattle.std.specs.Option.{option_map, option_or, option_to_list}
+use Rattle.std.specs.Option.{option_map, option_to_list}
 use Rattle.std.specs.List.{list_any, filter_map, cons_option, AllZip, AllByRecursion, IsDistinct}
 use Rattle.std.proofs.lemmas.Bool.{or_parts, or_from}
 use Rattle.std.proofs.lemmas.Bool.Decides.{nat_tests}
 use Rattle.std.proofs.lemmas.Map.Keys.{IsDistinct-head, IsDistinct-tail, IsDistinct-cons}
-use Rattle.replay_model.specs.Script.{Script, IsScript, Spells, EndsOnce, is_end, delivered_packet, is_skipped, words_of, lines_of_words, lines_of_text}
+use Rattle.replay_model.specs.Script.{Script, IsScript, Spells, EndsOnce, delivered_packet, is_skipped, words_of, lines_of_words, lines_of_text}
 use Rattle.replay_model.specs.TextFault.{Above, first_of, fault_at, fault_of_line, repeats, below, first_fault, first_fault_behind, nothing_above, repeat_checks}
 use Rattle.replay_model.specs.declared.limits.TheConstants.{SMALL_BUFFERS, LONG_BUFFERS}
 use Rattle.replay_model.specs.declared.event.Event.{Event}
-use Rattle.replay_model.specs.declared.text_fault.TextFault.{TextFault}
 use Rattle.replay_model.specs.declared.text_fault.TextFault.TheVariants as fault
 use Rattle.script_text.specs.Reading.{events_of, fault_of_whole}
 use Rattle.script_text.proofs.LineLaw.{spelled_words, no_fault_of_words, whole_line}

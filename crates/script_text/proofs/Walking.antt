@@ -8,11 +8,11 @@ use Rattle.std.proofs.lemmas.Bool.{cond-true, cond-false, not-true}
 use Rattle.std.proofs.lemmas.List.{append-nil}
 use Rattle.replay_model.specs.Script.{is_skipped, words_of, lines_of_words, lines_of_text, delivered_packet, is_end}
 use Rattle.replay_model.specs.FaultNumber.{number_of}
-use Rattle.replay_model.specs.TextFault.{Above, FaultAt, fault_at, first_of, form_checks, line_checks, fault_by, fitting, event_of, repeats, repeat_checks, fault_of_words, fault_of_line, ends, packet_of, with_words, below, first_fault_behind, first_fault, nothing_above, is_byte_of_line}
+use Rattle.replay_model.specs.TextFault.{Above, fault_at, first_of, form_checks, line_checks, fault_by, fitting, event_of, repeats, repeat_checks, fault_of_words, fault_of_line, ends, packet_of, with_words, below, first_fault_behind, first_fault, nothing_above, is_byte_of_line}
 use Rattle.replay_model.specs.declared.event.Event.{Event}
 use Rattle.replay_model.specs.declared.text_fault.TextFault.{TextFault}
 use Rattle.replay_model.specs.declared.text_fault.TextFault.TheVariants as fault
-use Rattle.script_text.specs.Lines.{lines_of_rest, IsShorter}
+use Rattle.script_text.specs.Lines.{IsShorter}
 use Rattle.script_text.specs.Packets.{HasPackets}
 use Rattle.script_text.specs.Reading.{fault_of_form, fault_of_whole, events_of, ReadsText, IsRefusal}
 use Rattle.script_text.specs.declared.fault.ScriptFault.{ScriptFault}

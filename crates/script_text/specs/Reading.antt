@@ -5,7 +5,6 @@ use Rattle.std.specs.List.{filter_map}
 use Rattle.replay_model.specs.Script.{Script, is_skipped, words_of, lines_of_words}
 use Rattle.replay_model.specs.TextFault.{Above, event_of, fault_by, fitting, first_of, form_checks, line_checks, number_fault, value, first_fault}
 use Rattle.replay_model.specs.declared.event.Event.{Event}
-use Rattle.replay_model.specs.declared.limits.TheConstants.{SMALL_BUFFERS, LONG_BUFFERS}
 use Rattle.replay_model.specs.declared.text_fault.TextFault.{TextFault}
 use Rattle.script_text.specs.declared.fault.ScriptFault.{ScriptFault}
 use Rattle.script_text.specs.declared.script.Script.{Script as Parsed}

@@ -1,5 +1,5 @@
 -- The words of a line as they are taken from it, and the first words and call words that there are.
-use Rattle.std.specs.Prelude.{◌≡◌, ◌≢◌, ◌<◌, ℕ, List, [], ◌∷◌, length, Bool, false, Result, Ok, Err, codes, slice_index}
+use Rattle.std.specs.Prelude.{◌≡◌, ◌≢◌, ◌<◌, ℕ, List, [], ◌∷◌, length, false, Result, Ok, Err, codes, slice_index}
 use Rattle.std.specs.Borrow.{Bor}
 use Rattle.replay_model.specs.Script.{is_blank, words_of}
 use Rattle.replay_model.specs.declared.text_fault.TextFault.{TextFault}

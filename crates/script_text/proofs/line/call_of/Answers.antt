@@ -1,5 +1,5 @@
 -- A call word that there isn't.
-use Rattle.std.proofs.Common.{◌≡◌, List, ◌∷◌, Some, ap, ◌∙◌}
+use Rattle.std.proofs.Common.{◌∷◌, ap, ◌∙◌}
 use Rattle.replay_model.specs.Script.{words_of}
 use Rattle.script_text.specs.Reading.{fault_of_form}
 use Rattle.script_text.specs.Words.{text_of}

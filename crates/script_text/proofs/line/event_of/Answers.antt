@@ -1,5 +1,4 @@
 -- A call is read by its own words.
-use Rattle.std.proofs.Common.{Bool}
 use Rattle.script_text.proofs.line.event_of.Goals as goal
 
 pub returns-in-Call-clause-reads : goal.returns-in-Call-clause-reads

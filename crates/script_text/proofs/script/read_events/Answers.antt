@@ -1,15 +1,13 @@
 -- Each line is skipped, has the first fault, or gives one more event.
-use Rattle.std.proofs.Common.{◌≡◌, ℕ, ◌<◌, ◌≤◌, ◌+◌, length, vec_len, Bor, List, [], ◌∷◌, ◌++◌, Bool, true, false, not, Option, Some, None, Ok, IfSome, inr, ap, arith, refl, subst, sym, ◌∙◌}
+use Rattle.std.proofs.Common.{◌≡◌, ℕ, ◌<◌, ◌≤◌, ◌+◌, length, vec_len, Bor, List, ◌∷◌, Option, Ok, IfSome, inr, ap, arith, subst, sym, ◌∙◌}
 use Rattle.std.specs.List.{list_any, All}
 use Rattle.std.specs.Prelude.{nat_eq}
-use Rattle.std.proofs.lemmas.Bool.{not-true, not-false, not_from_true}
+use Rattle.std.proofs.lemmas.Bool.{not-true, not-false}
 use Rattle.std.proofs.lemmas.List.Elements.{All-nil, All-push}
-use Rattle.replay_model.specs.Script.{InRange, lines_of_text}
-use Rattle.replay_model.specs.TextFault.{nothing_above}
+use Rattle.replay_model.specs.Script.{InRange}
 use Rattle.replay_model.specs.declared.event.Event.{Event}
 use Rattle.replay_model.specs.declared.text_fault.TextFault.TheVariants as fault
 use Rattle.script_text.specs.Lines.{lines_of_rest}
-use Rattle.script_text.specs.Packets.{HasPackets}
 use Rattle.script_text.specs.Reading.{ReadsLine}
 use Rattle.script_text.proofs.Walking.{counted_some, faulty, repeated, more_skipped, more_read, fault_here, refusal, nothing_read, fewer, parts_left, bytes_left}
 use Rattle.script_text.proofs.script.read_events.Goals as goal

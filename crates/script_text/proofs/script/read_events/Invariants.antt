@@ -1,4 +1,4 @@
-use Rattle.std.proofs.Common.{◌≤◌, ◌+◌, ℕ, List, length, vec_len, Bor, Option, Some, None}
+use Rattle.std.proofs.Common.{◌≤◌, ◌+◌, length, vec_len}
 use Rattle.std.specs.List.{All}
 use Rattle.replay_model.specs.Script.{InRange}
 use Rattle.script_text.specs.Lines.{lines_of_rest}
