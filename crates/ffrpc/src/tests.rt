@@ -14,6 +14,9 @@ const EMPTY_CALL: &[u8] =
 const EMPTY_CALL_TRANSCRIPT: &[u8] =
     b"start 2.1 65536\npacket 1 2>1 call 65536/0 -l 0\nready 1\nworker 1 claims 65536\nworker 1 admits 65536\nworker 1 runs 65536\nworker 1 replies 65536\npacket 2 1>2 result 65536/0 -l 0\nreturned 2.1 65536 0:\nrun 1 2.1 65536 null 0: -> 0:\nend runs 1 returned 1 signalled 0 failed 0 refused 0\n";
 
+/// More bytes than a run here writes.
+const ROOM: usize = 65_536;
+
 /// The outside of a run: the input, which reads and writes fail, and the most bytes of one.
 #[derive(Clone, Copy)]
 pub struct Given<'a> {
@@ -52,7 +55,7 @@ pub fn ran(
         most,
     };
     let mut sink = Short {
-        inner: MemorySink::new(failing_writes, Vec::new(alloc)),
+        inner: MemorySink::new(failing_writes, Vec::with_capacity(alloc, ROOM)?),
         most,
     };
     let status = ffrpc(alloc, &all_words, &mut source, &mut sink);

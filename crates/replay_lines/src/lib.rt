@@ -5,10 +5,10 @@
 //! `out` may then end in a part of a line.
 #![tactic(auto)]
 
+mod bytes;
 mod calls;
 mod counts;
 mod deliveries;
-mod digests;
 mod packets;
 mod runs;
 mod text;
@@ -19,7 +19,7 @@ pub use counts::{Counts, put_end};
 pub use deliveries::{put_discard, put_frame, put_ready};
 pub use packets::put_packet;
 pub use runs::{RunLine, put_runs};
-pub use work::{Did, Unfit, put_idle, put_work};
+pub use work::{put_idle, put_work};
 
 #[cfg(test)]
 mod tests;

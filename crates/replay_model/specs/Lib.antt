@@ -1,4 +1,5 @@
 pub mod Arrival
+pub mod Digests
 pub mod Examples
 pub mod FaultNumber
 pub mod Forms

@@ -3,10 +3,11 @@
 use Rattle.std.specs.Prelude.{ℕ, List, [], ◌∷◌, ◌++◌, length, filter, Option, Bool, true, false, not, ◌==◌, if◌then◌else◌}
 use Rattle.rpc_header.specs.declared.Activity.{Activity}
 use Rattle.rpc_header.specs.declared.Export.{Export}
-use Rattle.rpc_header.specs.declared.HeaderFault.{HeaderFault}
-use Rattle.udp_frames.specs.declared.fault.FrameFault.{FrameFault}
 use Rattle.call_rules.specs.Packet.{Call, Packet}
-use Rattle.call_rules.specs.Worker.{Run, Did}
+use Rattle.call_rules.specs.Worker.{Run}
+use Rattle.call_rules.specs.declared.worker.Did.{Did}
+use Rattle.replay_model.specs.declared.discard.Discard.{Discard}
+use Rattle.replay_model.specs.declared.limits.TheConstants.{SERVER_MACHINE}
 
 -- an accepted start of a call
 pub record Start : Type 0 where
@@ -85,28 +86,6 @@ counts_of r =
       refused = length (filter (λ (f : Failure). not (is_unanswered f.cause)) r.failures);
     }
 
--- why a delivery ends without a packet handed on, in the order in which this is looked for
-pub data Discard : Type 0 where
-  BadFrame : FrameFault → Discard
-  BadHeader : HeaderFault → Discard
-  -- a kind that the receiver doesn't take
-  WrongKind : Discard
-  -- the header names another machine than the sender, at a client another than this
-  Foreign : Discard
-  -- no buffer is free
-  NoBuffer : Discard
-  -- the server's list of ready packets is full
-  NoRoom : Discard
-  -- the hint names no cell
-  NoCell : Discard
-  -- the cell waits for no packet of this call
-  Stale : Discard
-  -- the cell holds one already, or was changed meanwhile
-  Taken : Discard
-  Lost : Discard
-  -- the caller's rules have no row for the packet
-  Unused : Discard
-
 -- one thing that happens in an event
 pub data Act : Type 0 where
   Impossible : Act
@@ -131,17 +110,13 @@ pub data Act : Type 0 where
   ListsRuns : List Run → Act
   Ends : Counts → Act
 
--- the number of the server's machine
-abbrev pub server_machine : ℕ
-server_machine = 1
-
 abbrev pub with_mark : Records → Activity → Mark → Records
 with_mark r activity mark = record r { marks = r.marks ++ record { activity = activity; mark = mark } ∷ [] }
 
 -- what is kept of one thing that happens
 abbrev pub recorded : Records → Act → Records
 recorded r (Starts s) = record (with_mark r s.call.activity Begin) { started = r.started ++ s ∷ [] }
-recorded r (Sends k p) = if p.from == server_machine then r else with_mark r p.header.call.activity (SentPacket k)
+recorded r (Sends k p) = if p.from == SERVER_MACHINE then r else with_mark r p.header.call.activity (SentPacket k)
 recorded r (Hears activity k) = with_mark r activity (Heard k)
 recorded r (HasRun run) = record r { journal = r.journal ++ run ∷ [] }
 recorded r (Returns x) = record r { returns = r.returns ++ x ∷ [] }

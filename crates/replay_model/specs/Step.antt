@@ -5,15 +5,20 @@ use Rattle.udp_frames.specs.Damage.{flipped}
 use Rattle.call_rules.specs.Packet.{Packet}
 use Rattle.call_rules.specs.Entry.{Entry, Empty}
 use Rattle.call_rules.specs.Caller as caller
-use Rattle.call_rules.specs.Worker.{Worker, Resting, Claimed, Admitted, Ran, on_idle, on_claimed, on_admitted, on_ran, run_of, drops, Full}
+use Rattle.call_rules.specs.Worker.{Worker, Resting, Claimed, Admitted, Ran, on_idle, on_claimed, on_admitted, on_ran, run_of, drops}
 use Rattle.call_rules.specs.Worker as worker
+use Rattle.call_rules.specs.declared.worker.Did.TheVariants as did
+use Rattle.call_rules.specs.declared.worker.Unfit.TheVariants as unfit
 use Rattle.replay_model.specs.declared.event.CallWord.{CallWord}
 use Rattle.replay_model.specs.declared.event.Event.{Event}
 use Rattle.replay_model.specs.declared.event.Event.TheVariants as event
+use Rattle.replay_model.specs.declared.limits.TheConstants.{SERVER_MACHINE, FIRST_CLIENT, READY_CELLS}
 use Rattle.replay_model.specs.Service.{Served, served, procedure_of, arguments_of}
-use Rattle.replay_model.specs.Record.{Act, Impossible, Starts, TooFast, Sends, Readies, Hears, Returns, Discards, Discard, NoRoom, NoCell, Stale, Unused, Idles, Works, HasRun, Shows, ListsRuns, Ends, counts_of, recorded_all, server_machine}
+use Rattle.replay_model.specs.declared.discard.Discard.{Discard}
+use Rattle.replay_model.specs.declared.discard.Discard.TheVariants as why
+use Rattle.replay_model.specs.Record.{Act, Impossible, Starts, TooFast, Sends, Readies, Hears, Returns, Discards, Idles, Works, HasRun, Shows, ListsRuns, Ends, counts_of, recorded_all}
 use Rattle.replay_model.specs.Arrival.{Arrival, Comes, Dropped, arrives, frame_of}
-use Rattle.replay_model.specs.World.{World, Client, Line, numbered, with_numbered, packet_at, first_client, entry_at, with_entry, number_limit}
+use Rattle.replay_model.specs.World.{World, Client, Line, numbered, with_numbered, packet_at, entry_at, with_entry, number_limit}
 
 -- what an event does: the world after it but for its records, and what happens
 pub record Outcome : Type 0 where
@@ -27,7 +32,7 @@ abbrev pub discarded : World → Discard → Outcome
 discarded w why = record { world = w; acts = Discards why ∷ [] }
 
 abbrev pub with_client : World → (machine : ℕ) → Client → World
-with_client w machine c = record w { clients = with_numbered first_client w.clients machine c }
+with_client w machine c = record w { clients = with_numbered FIRST_CLIENT w.clients machine c }
 
 abbrev pub with_line : Client → (process : ℕ) → Line → Client
 with_line c process l = record c { lines = with_numbered 1 c.lines process l }
@@ -38,7 +43,7 @@ with_packet w p = record w { bag = w.bag ++ p ∷ [] }
 -- the first packet of a call that a caller has started
 abbrev pub call_packet : (machine : ℕ) → caller.Caller → List ℕ → Packet
 call_packet machine c arguments =
-    record { from = machine; to = server_machine; header = caller.first_sending c 0; payload = arguments }
+    record { from = machine; to = SERVER_MACHINE; header = caller.first_sending c 0; payload = arguments }
 
 -- the caller of a process that starts what was asked
 abbrev pub started_caller : Line → CallWord → caller.Caller
@@ -78,16 +83,12 @@ unfoldable pub call_event : World → (machine process : ℕ) → Option Client 
 call_event w machine process None asked = impossible w
 call_event w machine process (Some c) asked = call_by w machine process c (numbered 1 c.lines process) asked
 
--- the most packets that are ready at a time
-abbrev pub ready_cells : ℕ
-ready_cells = 64
-
 -- the server takes a packet, or has no room for it
 unfoldable pub server_takes : World → (number : ℕ) → Packet → Outcome
 server_takes w k p =
-    if nat_lt (length w.server.ready) ready_cells
+    if nat_lt (length w.server.ready) READY_CELLS
     then record { world = record w { server = record w.server { ready = w.server.ready ++ p ∷ [] } }; acts = Readies k ∷ [] }
-    else discarded w NoRoom
+    else discarded w why.NoRoom
 
 -- a caller's act on a packet
 abbrev pub heard : World → (number : ℕ) → Packet → Client → Line → caller.Caller → caller.Act → Outcome
@@ -96,27 +97,27 @@ heard w k p c l after (caller.Last signal) =
       world = with_client w p.to (with_line c (p.header.hint + 1) (record l { caller = after }));
       acts = Hears p.header.call.activity k ∷ Returns (record { call = p.header.call; signal = signal; reply = p.payload }) ∷ [];
     }
-heard w k p c l after _ = discarded w Unused
+heard w k p c l after _ = discarded w why.Unused
 
 -- the cell takes a packet of the number that its caller waits for
 unfoldable pub line_takes : World → (number : ℕ) → Packet → Client → Option Line → Outcome
-line_takes w k p c None = discarded w NoCell
+line_takes w k p c None = discarded w why.NoCell
 line_takes w k p c (Some l) =
     if caller.is_idle l.caller.state
-    then discarded w Stale
+    then discarded w why.Stale
     else (if l.caller.number == p.header.call.number
     then heard w k p c l (caller.on_packet l.caller p.header).caller (caller.on_packet l.caller p.header).act
-    else discarded w Stale)
+    else discarded w why.Stale)
 
 -- the cell of the client that the header's hint names takes the packet
 unfoldable pub client_takes : World → (number : ℕ) → Packet → Option Client → Outcome
-client_takes w k p None = discarded w NoCell
+client_takes w k p None = discarded w why.NoCell
 client_takes w k p (Some c) = line_takes w k p c (numbered 1 c.lines (p.header.hint + 1))
 
 -- packet k has come to its receiver
 unfoldable pub machine_takes : World → (number : ℕ) → Packet → Outcome
 machine_takes w k p =
-    if p.to == server_machine then server_takes w k p else client_takes w k p (numbered first_client w.clients p.to)
+    if p.to == SERVER_MACHINE then server_takes w k p else client_takes w k p (numbered FIRST_CLIENT w.clients p.to)
 
 abbrev pub takes_arrival : World → (number : ℕ) → Arrival → Outcome
 takes_arrival w k (Comes p) = machine_takes w k p
@@ -164,12 +165,12 @@ runs_body w number p e s =
     let after : World = (works w number p (on_admitted p s.answer e)).world in
     record {
       world = record after { server = record after.server { total = s.total } };
-      acts = Works number p.header.call.number worker.Runs ∷ HasRun (run_of p s.answer) ∷ [];
+      acts = Works number p.header.call.number did.Runs ∷ HasRun (run_of p s.answer) ∷ [];
     }
 
 -- an idle worker has taken the packet p, whose activity has this entry
 unfoldable pub claims : World → (who : ℕ) → Packet → Option Entry → Outcome
-claims w number p None = works w number p (drops Empty Full)
+claims w number p None = works w number p (drops Empty unfit.Full)
 claims w number p (Some e) = works w number p (on_idle p e)
 
 -- an idle worker takes the oldest ready packet; without one, it stays idle
@@ -196,7 +197,7 @@ end_event w = record { world = w; acts = Ends (counts_of w.records) ∷ [] }
 
 -- what each event does
 abbrev pub outcome : World → Event → Outcome
-outcome w (event.Call machine process asked) = call_event w machine process (numbered first_client w.clients machine) asked
+outcome w (event.Call machine process asked) = call_event w machine process (numbered FIRST_CLIENT w.clients machine) asked
 outcome w (event.Deliver k) = deliver_event w k (packet_at w.bag k)
 outcome w (event.Damage k bit) = damage_event w k bit (packet_at w.bag k)
 outcome w (event.Show k) = show_event w k (packet_at w.bag k)

@@ -6,13 +6,17 @@
 //! the definitions: the contract of each is the law, and its body is empty or only calls laws that it rests on.
 #![tactic(auto)]
 
+mod discard;
 mod event;
 mod laws;
 pub mod limits;
+mod line_laws;
 mod text_fault;
 
+pub use discard::Discard;
 pub use event::{ADD, CallWord, Event, NULL};
 pub use laws::fields_are_a_header;
+pub use line_laws::acts_print_whole_lines;
 pub use text_fault::TextFault;
 
 #[cfg(test)]

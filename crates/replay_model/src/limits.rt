@@ -12,6 +12,9 @@ pub const FIRST_CLIENT: u8 = 2;
 /// The last client's machine.
 pub const LAST_CLIENT: u8 = 9;
 
+/// How many clients there are.
+pub const CLIENTS: u8 = LAST_CLIENT - FIRST_CLIENT + 1;
+
 /// The last process of a client. Processes are numbered from 1.
 pub const LAST_PROCESS: u8 = 8;
 

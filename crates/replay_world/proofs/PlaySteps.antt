@@ -8,13 +8,14 @@ use Rattle.std.proofs.lemmas.Bool.{cond-true, cond-false}
 use Rattle.rpc_header.specs.declared.Activity.{Activity}
 use Rattle.call_rules.specs.Packet.{Call, Packet}
 use Rattle.call_rules.specs.Worker.{Run}
-use Rattle.replay_model.specs.Record.{Act, Records, Counts, Start, Return, Starts, Sends, Hears, HasRun, Returns, counts_of, recorded, with_mark, SentPacket, server_machine}
+use Rattle.replay_model.specs.declared.limits.TheConstants.{SERVER_MACHINE}
+use Rattle.replay_model.specs.Record.{Act, Records, Counts, Start, Return, Starts, Sends, Hears, HasRun, Returns, counts_of, recorded, with_mark, SentPacket}
 use Rattle.replay_model.specs.World.{World, numbered, packet_at}
 use Rattle.replay_model.specs.declared.event.Event.{Event}
 use Rattle.replay_model.specs.Step.{Outcome, outcome, step}
 use Rattle.replay_model.specs.Transcript.{lines}
 use Rattle.replay_model.specs.Lines.{lines_of_act}
-use Rattle.replay_lines.specs.Digests.{RunDigest, run_digest}
+use Rattle.replay_model.specs.Digests.{RunDigest, run_digest}
 use Rattle.replay_lines.specs.Counts.{counts_run, counts_return}
 use Rattle.replay_packets.specs.Sent.{SentFrame, sent_of}
 use Rattle.replay_world.specs.Stored.{Stored, stored_of}
@@ -76,7 +77,7 @@ keeps_either false s bag r1 r2 k1 k2 = k2
 
 pub keeps_sent : (s : Stored) (bag : List Packet) (r : Records) (n : ℕ) (p : Packet) → Keeps s bag r → Keeps s bag (recorded r (Sends n p))
 keeps_sent s bag r n p k =
-    keeps_either (p.from == server_machine) s bag r (with_mark r p.header.call.activity (SentPacket n)) k
+    keeps_either (p.from == SERVER_MACHINE) s bag r (with_mark r p.header.call.activity (SentPacket n)) k
     (record { frames = k.frames; runs = k.runs; counts = k.counts })
 
 pub keeps_run : (s : Stored) (bag : List Packet) (r : Records) (run : Run) → Keeps s bag r → Keeps (record s { runs = s.runs ++ run_digest run ∷ []; counts = counts_run s.counts }) bag (recorded r (HasRun run))

@@ -3,7 +3,7 @@
 use Rattle.std.specs.Prelude.{ℕ, ◌+◌, ◌≤◌, List, map, length}
 use Rattle.replay_model.specs.Record.{Counts, counts_of}
 use Rattle.replay_model.specs.World.{World, Server, Client}
-use Rattle.replay_lines.specs.Digests.{RunDigest, run_digest}
+use Rattle.replay_model.specs.Digests.{RunDigest, run_digest}
 use Rattle.replay_packets.specs.Sent.{SentFrame, sent_of}
 
 pub record Stored : Type 0 where

@@ -1,30 +1,25 @@
 //! The server machine.
 
-ghost use Rattle.std.specs.Prelude.{◌≡◌, ◌≤◌, ◌+◌, ◌<◌, ◌^◌, [], ◌∷◌, ◌++◌, length, Some, None, unwrap_or, replicate, nat_lt, IfOk, MatchOption, if◌then◌else◌};
+ghost use Rattle.std.specs.Prelude.{◌≡◌, ◌≤◌, ◌+◌, ◌-◌, ◌*◌, ◌<◌, ◌^◌, [], ◌∷◌, ◌++◌, length, Some, None, unwrap_or, replicate, nat_lt, IfOk, MatchOption, if◌then◌else◌};
 ghost use Rattle.call_rules.specs.Entry as entry;
 ghost use Rattle.call_rules.specs.Worker as rules;
 ghost use Rattle.replay_model.specs.World as model;
 ghost use Rattle.replay_model.specs.World.{World, numbered};
 ghost use Rattle.replay_model.specs.Step as step;
-ghost use Rattle.replay_world.specs.Entry.{word_of_word};
-ghost use Rattle.replay_lines.specs.Did.{unfit_of};
 
-use crate::client::CLIENTS;
-use crate::entry::{Entry, Word};
+use crate::entry::Entry;
 use crate::service::{Answer, serve};
 use crate::worker::{Worker, WorkerState, unfit_for};
-use replay_lines::{Did, RunLine, Unfit};
+use call_rules::{Did, Seen, Unfit, judge};
+use replay_lines::RunLine;
+use replay_model::limits::{
+    CLIENTS, EXPORT_ROWS, FIRST_CLIENT, LAST_CLIENT, LAST_PROCESS, LAST_WORKER, READY_CELLS,
+};
 use replay_packets::{Arrived, Outgoing, Packet};
 use rpc_header::{Activity, Header, MAX_DATA};
-use replay_model::limits::{FIRST_CLIENT, LAST_CLIENT, LAST_PROCESS, LAST_WORKER};
 use std::alloc::{AllocError, Global};
 use std::collections::VecDeque;
 use std::marker::Model;
-
-/// The most packets that are ready at a time.
-const READY_CELLS: usize = 64;
-
-const EXPORT_ROWS: usize = 16;
 
 /// An interface that the server exports.
 #[derive(Drop)]
@@ -133,7 +128,7 @@ impl ServerMachine {
     /// Takes a packet to the ready ones, and answers whether there was room for it.
     pub fn take(&mut self, alloc: Global, packet: &Arrived) -> Result<bool, AllocError>
         requires { length packet.now.payload.now ≤ MAX_DATA }
-        ensures room { IfOk result (λ has_room. has_room ≡ nat_lt (length self.old.ready) step.ready_cells) }
+        ensures room { IfOk result (λ has_room. has_room ≡ nat_lt (length self.old.ready) READY_CELLS) }
         ensures ready { IfOk result (λ has_room. self.new
             ≡ (if has_room then record self.old { ready = self.old.ready ++ packet_of packet.now ∷ [] } else self.old)) }
     {
@@ -197,10 +192,10 @@ impl ServerMachine {
     {
         let call = packet.header().call;
         let number = call.number.value;
-        let Some(seen) = self.word(call.activity) else {
+        let Some(seen) = self.seen(call.activity) else {
             return dropped(number, Unfit::Full);
         };
-        match unfit_for(seen.judge(packet.header())) {
+        match unfit_for(judge(seen, packet.header())) {
             Some(why) => dropped(number, why),
             None => {
                 let state = WorkerState::Claimed {
@@ -219,14 +214,14 @@ impl ServerMachine {
     }
 
     /// A worker that has claimed its packet has the entry run it, unless the entry has changed since.
-    fn admit(&mut self, carrier: Packet, seen: Word) -> (WorkerState, Worked)
-        ensures step { Steps (rules.on_claimed carrier (word_of_word seen) (entry_in self.old carrier)) carrier self.old self.new
+    fn admit(&mut self, carrier: Packet, seen: Seen) -> (WorkerState, Worked)
+        ensures step { Steps (rules.on_claimed carrier (entry.word_seen seen) (entry_in self.old carrier)) carrier self.old self.new
             (worker_of result.0) result.1 }
         ensures workers { self.new.workers ≡ self.old.workers }
     {
         let call = carrier.header().call;
         let number = call.number.value;
-        if !self.word_or_empty(call.activity).is_same(seen) {
+        if !self.seen_or_empty(call.activity).is_same(seen) {
             return dropped(number, Unfit::Lost);
         }
         self.set_entry(call.activity, Entry::running(call.number));
@@ -275,25 +270,25 @@ impl ServerMachine {
     }
 
     /// What a worker sees of an activity's entry, where there is one.
-    fn word(&self, activity: Activity) -> Option<Word>
+    fn seen(&self, activity: Activity) -> Option<Seen>
         ensures { MatchOption result (model.entry_at self.now.entries activity ≡ None)
-            (λ word. (e : entry.Entry) × (model.entry_at self.now.entries activity ≡ Some e) × (word_of_word word ≡ entry.word_of e)) }
+            (λ seen. (e : entry.Entry) × (model.entry_at self.now.entries activity ≡ Some e) × (entry.word_seen seen ≡ entry.word_of e)) }
     {
         let place = entry_place(activity)?;
         if place >= self.entries.len() {
             return None;
         }
         let entry = &self.entries[place];
-        Some(entry.word())
+        Some(entry.seen())
     }
 
     /// What a worker sees of an activity's entry, which is empty where there is none.
-    fn word_or_empty(&self, activity: Activity) -> Word
-        ensures { word_of_word result ≡ entry.word_of (unwrap_or (model.entry_at self.now.entries activity) entry.Empty) }
+    fn seen_or_empty(&self, activity: Activity) -> Seen
+        ensures { entry.word_seen result ≡ entry.word_of (unwrap_or (model.entry_at self.now.entries activity) entry.Empty) }
     {
-        match self.word(activity) {
-            Some(word) => word,
-            None => Word::NONE,
+        match self.seen(activity) {
+            Some(seen) => seen,
+            None => Seen::EMPTY,
         }
     }
 
@@ -315,7 +310,7 @@ ghost use Rattle.replay_world.specs.Server.{IsStep};
 /// What a worker is left with that drops its packet.
 fn dropped(number: u64, why: Unfit) -> (WorkerState, Worked)
     ensures state { worker_of result.0 ≡ rules.Resting }
-    ensures step { IsStep result.1 number (rules.Drops (unfit_of why)) }
+    ensures step { IsStep result.1 number (Did.Drops why) }
 {
     let worked = Worked::Step {
         number,
@@ -326,7 +321,7 @@ fn dropped(number: u64, why: Unfit) -> (WorkerState, Worked)
 
 /// The exports of a server that has booted.
 fn boot_rows(alloc: Global, boot: u32) -> Result<Vec<Option<ExportRow>>, AllocError>
-    ensures { IfOk result (λ rows. rows.items ≡ Some (model.main_row boot) ∷ replicate 15 None) }
+    ensures { IfOk result (λ rows. rows.items ≡ Some (model.main_row boot) ∷ replicate (EXPORT_ROWS - 1) None) }
 {
     let mut rows = Vec::new(alloc);
     rows.push(Some(ExportRow::main(alloc, boot)?))?;
@@ -337,7 +332,7 @@ fn boot_rows(alloc: Global, boot: u32) -> Result<Vec<Option<ExportRow>>, AllocEr
 }
 
 fn boot_entries(alloc: Global) -> Result<Vec<Entry>, AllocError>
-    ensures { IfOk result (λ entries. entries.items ≡ replicate 64 entry.Empty) }
+    ensures { IfOk result (λ entries. entries.items ≡ replicate (CLIENTS * LAST_PROCESS) entry.Empty) }
 {
     let mut entries = Vec::new(alloc);
     for _entry in 0..CLIENTS * LAST_PROCESS {
@@ -347,7 +342,7 @@ fn boot_entries(alloc: Global) -> Result<Vec<Entry>, AllocError>
 }
 
 fn boot_workers(alloc: Global) -> Result<Vec<Worker>, AllocError>
-    ensures { IfOk result (λ workers. workers.items ≡ replicate 4 rules.Resting) }
+    ensures { IfOk result (λ workers. workers.items ≡ replicate LAST_WORKER rules.Resting) }
 {
     let mut workers = Vec::new(alloc);
     for _worker in 0..LAST_WORKER {

@@ -14,17 +14,18 @@ ghost use Rattle.replay_world.specs.Stored.{load};
 ghost use Rattle.replay_world.specs.Stands.{Stands};
 ghost use Rattle.replay_world.specs.Played.{world_with, Keeps, Plays};
 
-use crate::client::{CLIENTS, Called, ClientMachine};
+use crate::client::{Called, ClientMachine};
 use crate::delivery::{hand_over, tell};
 use crate::server::{ServerMachine, Worked};
+use call_rules::Did;
 use ff_io::Station;
 use replay_lines::{
-    Counts, Did, RunLine, put_end, put_frame, put_idle, put_impossible, put_packet, put_runs,
-    put_start, put_too_fast, put_work,
+    Counts, RunLine, put_end, put_frame, put_idle, put_impossible, put_packet, put_runs, put_start,
+    put_too_fast, put_work,
 };
+use replay_model::limits::{CLIENTS, FIRST_CLIENT, LAST_CLIENT, LAST_PROCESS};
 use replay_model::{CallWord, Event};
 use replay_packets::{Outgoing, Sent};
-use replay_model::limits::FIRST_CLIENT;
 use std::alloc::{AllocError, Global};
 use std::marker::Model;
 
@@ -90,10 +91,10 @@ impl World {
             } => self.call(alloc, machine, process, word, out),
             Event::Deliver(packet) => self.deliver(alloc, packet, out),
             Event::Damage { packet, bit } => self.damage(alloc, packet, bit, out),
-            Event::Show(packet) => self.show(alloc, packet, out),
+            Event::Show(packet) => self.show(packet, out),
             Event::Work(worker) => self.work(alloc, worker, out),
-            Event::Journal => put_runs(alloc, out, self.runs.as_slice()),
-            Event::End => put_end(alloc, out, &self.counts),
+            Event::Journal => put_runs(out, self.runs.as_slice()),
+            Event::End => put_end(out, &self.counts),
         }
     }
 
@@ -106,11 +107,11 @@ impl World {
         word: CallWord,
         out: &mut Vec<u8>,
     ) -> Result<(), AllocError>
-        requires machine { (2 ≤ machine) × (machine ≤ 9) }
+        requires machine { (FIRST_CLIENT ≤ machine) × (machine ≤ LAST_CLIENT) }
         requires process { 1 ≤ process }
         requires few { load self.old < 2 ^ 62 }
         ensures played { (bag : List Packet) (r : Records) → Keeps self.old bag r → OnOk result (Plays out.old.items out.new.items self.new r
-            (step.call_event (world_with self.old bag r) machine process (model.numbered model.first_client self.old.clients machine) word)) }
+            (step.call_event (world_with self.old bag r) machine process (model.numbered FIRST_CLIENT self.old.clients machine) word)) }
         ensures load { OnOk result (load self.new ≤ load self.old + 1) }
     {
         let place = usize::from(machine - FIRST_CLIENT);
@@ -121,22 +122,29 @@ impl World {
         let me = Station { machine };
         match client.call(alloc, me, process, word, self.second)? {
             Called::Impossible => put_impossible(out),
-            Called::TooFast(number) => put_too_fast(alloc, out, number, self.second),
+            Called::TooFast(number) => put_too_fast(out, number, self.second),
             Called::Starts(packet) => {
-                put_start(alloc, out, packet.header().call)?;
-                self.send(alloc, packet, out)
+                put_start(out, packet.header().call)?;
+                self.send(packet, out)
             }
         }
     }
 
     /// Sends a packet.
-    fn send(&mut self, alloc: Global, packet: Outgoing, out: &mut Vec<u8>) -> Result<(), AllocError>
+    fn send(&mut self, packet: Outgoing, out: &mut Vec<u8>) -> Result<(), AllocError>
         requires { length self.old.bag < 2 ^ 62 }
         ensures bag { OnOk result (self.new ≡ record self.old { bag = self.old.bag ++ sent_of packet ∷ [] }) }
         ensures printed { OnOk result (out.new.items ≡ out.old.items ++ lines_of_act (act.Sends (length self.old.bag + 1) packet)) }
     {
         let number = self.bag.len() + 1;
-        put_packet(alloc, out, number, &packet)?;
+        put_packet(
+            out,
+            number,
+            packet.from().machine,
+            packet.to().machine,
+            packet.header(),
+            packet.payload_len(),
+        )?;
         self.bag.push(packet.sent())?;
         Ok(())
     }
@@ -161,7 +169,7 @@ impl World {
             sent.to(),
             sent.frame(),
         )?;
-        tell(alloc, &mut self.counts, number, taken, out)
+        tell(&mut self.counts, number, taken, out)
     }
 
     /// A packet comes to its receiver with one bit of its frame flipped.
@@ -193,11 +201,11 @@ impl World {
             sent.to(),
             frame.as_slice(),
         )?;
-        tell(alloc, &mut self.counts, number, taken, out)
+        tell(&mut self.counts, number, taken, out)
     }
 
     /// The frame of a packet is printed.
-    fn show(&self, alloc: Global, number: u32, out: &mut Vec<u8>) -> Result<(), AllocError>
+    fn show(&self, number: u32, out: &mut Vec<u8>) -> Result<(), AllocError>
         requires number { 1 ≤ number }
         ensures { (bag : List Packet) (r : Records) → Keeps self.now bag r → OnOk result (Plays out.old.items out.new.items self.now r
             (step.show_event (world_with self.now bag r) number (model.packet_at bag number))) }
@@ -206,7 +214,7 @@ impl World {
         if place >= self.bag.len() {
             return put_impossible(out);
         }
-        put_frame(alloc, out, number, self.bag[place].frame())
+        put_frame(out, number, self.bag[place].frame())
     }
 
     /// One step of a worker.
@@ -219,23 +227,22 @@ impl World {
     {
         match self.server.work(alloc, worker)? {
             Worked::Impossible => put_impossible(out),
-            Worked::Idle => put_idle(alloc, out, worker),
-            Worked::Step { number, did } => put_work(alloc, out, worker, number, did),
+            Worked::Idle => put_idle(out, worker),
+            Worked::Step { number, did } => put_work(out, worker, number, did),
             Worked::Runs(line) => {
-                put_work(alloc, out, worker, line.call.number.value, Did::Runs)?;
+                put_work(out, worker, line.call.number.value, Did::Runs)?;
                 self.counts.count_run();
                 self.runs.push(line)?;
                 Ok(())
             }
             Worked::Replies(packet) => {
                 put_work(
-                    alloc,
                     out,
                     worker,
                     packet.header().call.number.value,
                     Did::Replies,
                 )?;
-                self.send(alloc, packet, out)
+                self.send(packet, out)
             }
         }
     }

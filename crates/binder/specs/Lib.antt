@@ -1,0 +1,6 @@
+pub mod Names
+pub mod Padded
+pub mod Same
+pub mod Interfaces
+pub mod Exports
+pub mod Index
