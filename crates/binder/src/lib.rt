@@ -18,3 +18,6 @@ pub use laws::{
 };
 pub use name::{NAME_LIMIT, Name, read_name};
 pub use row::{ExportFault, ExportRow, Verdict};
+
+#[cfg(test)]
+mod tests;
