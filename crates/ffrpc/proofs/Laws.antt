@@ -1,5 +1,5 @@
 -- Laws of the crates below, as the proofs here are given them.
-use Rattle.std.proofs.Common.{◌≡◌, ℕ, List, [], ◌++◌, Option}
+use Rattle.std.proofs.Common.{◌≡◌, ℕ, List, [], ◌++◌, Option, None}
 use Rattle.ff_io.specs.Told.{Appended}
 use Rattle.replay_model.specs.declared.event.Event.{Event}
 use Rattle.replay_model.specs.Lines.{EndsLine, lines_of}
@@ -8,6 +8,7 @@ use Rattle.replay_model.specs.World.{first_world}
 use Rattle.replay_model.specs.Step.{run}
 use Rattle.replay_model.specs.Once.{Once}
 use Rattle.replay_model.specs.Script.{Script, IsScript}
+use Rattle.replay_model.specs.TextFault.{first_fault}
 
 -- after any events Once holds
 abbrev pub OnceLaw : Type 0
@@ -16,6 +17,10 @@ OnceLaw = (small long : ℕ) (events : List Event) → Once (run (first_world sm
 -- no text is two scripts
 abbrev pub OneReading : Type 0
 OneReading = (text : List ℕ) (a b : Script) → IsScript text a → IsScript text b → a ≡ b
+
+-- a script has no fault
+abbrev pub NoFault : Type 0
+NoFault = (text : List ℕ) (s : Script) → IsScript text s → first_fault text ≡ None
 
 -- nothing was appended
 abbrev pub Nothing : Type 0

@@ -9,6 +9,7 @@ use Rattle.ffrpc.specs.Status.{fault_line}
 use Rattle.ffrpc.specs.Outside.{Input, Output, WriteFailed, ReadToEnd, Wrote, WroteUnlessFailed, All, Part}
 use Rattle.ffrpc.specs.Replay.{PlayedInPart, IsWithin, Unread, Stopped, Says}
 use Rattle.ffrpc.proofs.Laws.{OnceLaw, OneReading, InTurn}
+use Rattle.ffrpc.proofs.Completeness.{not_both}
 use Rattle.ffrpc.proofs.Playing.{nothing_played}
 
 -- what a write of all bytes says
@@ -81,7 +82,7 @@ says_stopped one turn status.NoMemory text s from to old mid new is within ended
   whole_lines = p.whole_lines;
   of_script = λ t is_too. subst (λ x. PlayedInPart x p.shown) (one text s t is is_too) p.of_script;
   of_no_script = λ none. absurd (none s is);
-  of_long = λ long. absurd (omega (arith, long, within));
+  of_long = λ long. absurd (not_both text long within);
   written = behind turn p.shown (fault_line status.NoMemory) old mid new p.written p.still w;
 }
 says_stopped one turn status.Ok text s from to old mid new is within ended before after p w = absurd p

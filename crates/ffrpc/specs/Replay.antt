@@ -1,29 +1,28 @@
 -- What `replay` does, by what its source and its sink tell, and by their counts of faults.
-use Rattle.std.specs.Prelude.{◌≡◌, ℕ, ◌≤◌, ◌<◌, List, [], ◌++◌, length, IfSome, ◌⊎◌, Result, Ok, Err}
+use Rattle.std.specs.Prelude.{◌≡◌, ℕ, ◌≤◌, ◌<◌, List, [], ◌++◌, length, Some, IfSome, ◌⊎◌, Result, Ok, Err}
 use Rattle.script_text.specs.declared.script.Script.{Script as Parsed}
 use Rattle.script_text.specs.Reading.{script_of}
 use Rattle.replay_model.specs.declared.event.Event.{Event}
 use Rattle.replay_model.specs.Lines.{EndsLine}
 use Rattle.replay_model.specs.Script.{Script, IsScript}
+use Rattle.replay_model.specs.TextFault.{FaultAt, first_fault, line_count}
 use Rattle.replay_model.specs.World.{World, first_world}
 use Rattle.replay_model.specs.Step.{run}
 use Rattle.replay_model.specs.Transcript.{lines_from, transcript, last_world}
 use Rattle.replay_model.specs.Once.{Once}
+use Rattle.ffrpc.specs.declared.replay.TheConstants.{INPUT_LIMIT, LINE_LIMIT}
 use Rattle.ffrpc.specs.declared.status.Status.{Status}
 use Rattle.ffrpc.specs.declared.status.Status.TheVariants as status
 use Rattle.ffrpc.specs.Outside.{Input, Output, ReadFailed, WriteFailed, ReadToEnd, Wrote, WroteUnlessFailed}
 use Rattle.ffrpc.specs.Status.{fault_line}
 
--- the most bytes of input
-abbrev pub input_limit : ℕ
-input_limit = 1048576
-
--- the text is longer than the limit
+-- the text has more bytes or more lines than the limits
 abbrev pub IsLong : List ℕ → Type 0
-IsLong text = input_limit < length text
+IsLong text = (INPUT_LIMIT < length text) ⊎ (LINE_LIMIT < line_count text)
 
-abbrev pub IsWithin : List ℕ → Type 0
-IsWithin text = length text ≤ input_limit
+pub record IsWithin (text : List ℕ) : Type 0 where
+  pub bytes : length text ≤ INPUT_LIMIT
+  pub lines : line_count text ≤ LINE_LIMIT
 
 abbrev pub NoScript : List ℕ → Type 0
 NoScript text = (s : Script) → IsScript text s → ⊥
@@ -65,7 +64,8 @@ Stopped _ s old new = ⊥
 
 -- why no script was read of this text
 abbrev pub Unread : Status → List ℕ → Input → Input → Type 0
-Unread (status.BadText line number) text from to = (line ≡ 1) × (number ≡ 9) × IsWithin text × NoScript text × ReadToEnd to
+Unread (status.BadText line number) text from to =
+    (first_fault text ≡ Some (record { line = line; number = number })) × IsWithin text × ReadToEnd to
 Unread status.ReadFault text from to = ReadFailed from to
 Unread status.TooLong text from to = IsLong text
 Unread status.NoMemory text from to = Unit {0}
@@ -121,10 +121,11 @@ pub record Replays (st : Status) (from to : Input) (old new : Output) : Type 0 w
   pub text : List ℕ
   pub is_text : IfSome from.left (λ left. left ≡ text)
   pub says : Says st text from to old new
-  -- a script within the limit is played, unless a call of the source or the sink fails or memory runs out
+  -- a script within the limits is played, unless a call of the source or the sink fails or memory runs out
   pub plays : (s : Script) → IsScript text s → IsWithin text
       → (ReadFailed from to → ⊥) → (WriteFailed old new → ⊥) → ((st ≡ status.Ok) × Wrote (transcript s) old new) ⊎ (st ≡ status.NoMemory)
-  -- another text within the limit is refused
-  pub refuses : IsWithin text → NoScript text → (ReadFailed from to → ⊥) → (st ≡ status.BadText 1 9) ⊎ (st ≡ status.NoMemory)
-  -- a text beyond the limit is too long
+  -- a text within the limits that has a fault is refused at the first
+  pub refuses : (f : FaultAt) → first_fault text ≡ Some f → IsWithin text → (ReadFailed from to → ⊥)
+      → (st ≡ status.BadText f.line f.number) ⊎ (st ≡ status.NoMemory)
+  -- a text beyond the limits is too long
   pub stops : IsLong text → (ReadFailed from to → ⊥) → (st ≡ status.TooLong) ⊎ (st ≡ status.NoMemory)

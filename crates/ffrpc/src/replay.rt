@@ -7,7 +7,7 @@ ghost use Rattle.replay_model.specs.Script.{InRange};
 ghost use Rattle.replay_model.specs.Transcript.{transcript};
 ghost use Rattle.script_text.specs.Reading.{script_of};
 ghost use Rattle.ffrpc.specs.Outside.{input, output, Flushed, WroteUnlessFailed};
-ghost use Rattle.ffrpc.specs.Replay.{input_limit, Reads, Replays, Stopped};
+ghost use Rattle.ffrpc.specs.Replay.{Reads, Replays, Stopped};
 ghost use Rattle.ffrpc.specs.Status.{fault_line};
 
 use crate::fault_line::fault_line_of;
@@ -16,11 +16,14 @@ use ff_io::{Sink, Source, WriteFailed, read_all, told_laws, write_all};
 use once_law::once_after_any_events;
 use replay_model::acts_print_whole_lines;
 use replay_world::{Script, World, parse_script};
-use script_text::one_reading;
+use script_text::{count_lines, no_fault_where_spelled, one_reading};
 use std::alloc::Global;
 
 /// The most bytes of input.
 pub const INPUT_LIMIT: usize = 1_048_576;
+
+/// The most lines of input.
+pub const LINE_LIMIT: usize = 20_000;
 
 /// How many bytes of a transcript are kept before they are written.
 const FLUSH_BYTES: usize = 65_536;
@@ -39,6 +42,7 @@ pub fn run_replay<S: Source, K: Sink>(alloc: Global, source: &mut S, sink: &mut 
     ensures write_count { K.faults sink.old ≤ K.faults sink.new }
 {
     one_reading();
+    no_fault_where_spelled();
     once_after_any_events();
     told_laws();
     let script = match read_script(alloc, source) {
@@ -71,11 +75,15 @@ fn read_script<S: Source>(alloc: Global, source: &mut S) -> Result<Script, Statu
     ensures still { (IsErrOf result Status.ReadFault → ⊥) → S.faults source.new ≡ S.faults source.old }
     ensures small { IfOk result (λ s. (s.small ≡ 256) × (s.long ≡ 72)) }
     ensures in_range { IfOk result (λ s. All InRange s.events) }
-    ensures events { IfOk result (λ s. length s.events ≤ input_limit) }
+    ensures events { IfOk result (λ s. length s.events ≤ INPUT_LIMIT) }
     ensures count { S.faults source.old ≤ S.faults source.new }
 {
-    let text = read_all(alloc, source, INPUT_LIMIT)?;
-    Ok(parse_script(alloc, text.as_slice())?)
+    let bytes = read_all(alloc, source, INPUT_LIMIT)?;
+    let text = bytes.as_slice();
+    if count_lines(text) > LINE_LIMIT {
+        return Err(Status::TooLong);
+    }
+    Ok(parse_script(alloc, text)?)
 }
 
 /// Plays a script from the first world, and writes its transcript.
@@ -83,7 +91,7 @@ fn play<K: Sink>(alloc: Global, script: &Script, sink: &mut K) -> Result<(), Sta
     requires small { script.now.small ≡ 256 }
     requires long { script.now.long ≡ 72 }
     requires in_range { All InRange script.now.events }
-    requires events { length script.now.events ≤ input_limit }
+    requires events { length script.now.events ≤ INPUT_LIMIT }
     ensures ok { OnOk result (Appended (transcript (script_of script.now)) (K.written sink.old) (K.written sink.new)) }
     ensures err { IfErr result (λ status. Stopped status (script_of script.now)
         (output (K.written sink.old) (K.faults sink.old)) (output (K.written sink.new) (K.faults sink.new))) }
