@@ -3,6 +3,7 @@ use Rattle.std.specs.Prelude.{◌≡◌, ℕ, ◌≤◌, List, [], ◌∷◌, ma
 use Rattle.std.specs.List.{slice_split, filter_map, list_all, AllZip, IsDistinct, Contains}
 use Rattle.std.specs.Char.{is_ascii_digit}
 use Rattle.std.specs.Fmt.{decimal}
+use Rattle.binder.specs.Names.{is_name}
 use Rattle.replay_model.specs.Forms.{Place, The, Number, Name, Value, Numeral, Text, Form, forms}
 use Rattle.replay_model.specs.declared.limits.TheConstants.{FIRST_CLIENT, LAST_CLIENT, LAST_PROCESS, LAST_WORKER, LAST_BIT, LARGEST_NUMBER, SMALL_BUFFERS, LONG_BUFFERS}
 use Rattle.replay_model.specs.declared.event.CallWord.{CallWord}
@@ -61,17 +62,6 @@ pub record IsNumber (w : List ℕ) (low high n : ℕ) : Type 0 where
   pub digits : w ≡ decimal n
   pub at_least : low ≤ n
   pub at_most : n ≤ high
-
-abbrev pub is_letter : ℕ → Bool
-is_letter b = (nat_le 65 b && nat_le b 90) || (nat_le 97 b && nat_le b 122)
-
-abbrev pub is_letter_or_digit : ℕ → Bool
-is_letter_or_digit b = is_letter b || is_ascii_digit b
-
--- 1 to 32 ASCII letters and digits that begin with a letter
-abbrev pub is_name : List ℕ → Bool
-is_name [] = false
-is_name (b ∷ bs) = is_letter b && list_all is_letter_or_digit bs && nat_le (length bs) 31
 
 -- what a word says at its place
 abbrev pub Says : Place → List ℕ → Value → Type 0

@@ -6,8 +6,9 @@ use Rattle.std.specs.List.{list_all, list_any, count_by}
 use Rattle.std.specs.Char.{is_ascii_digit}
 use Rattle.std.specs.Str.{bytes_eq}
 use Rattle.std.specs.Str.Parse.{digits_value}
+use Rattle.binder.specs.Names.{is_name}
 use Rattle.replay_model.specs.Forms.{Place, The, Number, Name, Value, Numeral, Text, Form, forms}
-use Rattle.replay_model.specs.Script.{is_blank, is_newline, is_name, is_skipped, words_of, lines_of_text, is_end, delivered_packet}
+use Rattle.replay_model.specs.Script.{is_blank, is_newline, is_skipped, words_of, lines_of_text, is_end, delivered_packet}
 use Rattle.replay_model.specs.FaultNumber.{number_of}
 use Rattle.replay_model.specs.declared.event.Event.{Event}
 use Rattle.replay_model.specs.declared.text_fault.TextFault.{TextFault}

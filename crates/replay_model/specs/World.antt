@@ -7,7 +7,8 @@ use Rattle.call_rules.specs.Packet.{Packet}
 use Rattle.call_rules.specs.Entry.{Entry, Empty}
 use Rattle.call_rules.specs.Worker.{Worker, Resting}
 use Rattle.call_rules.specs.Caller.{Caller, idle}
-use Rattle.replay_model.specs.declared.limits.TheConstants.{FIRST_CLIENT, LAST_CLIENT, CLIENTS, LAST_PROCESS, LAST_WORKER, EXPORT_ROWS}
+use Rattle.replay_model.specs.declared.limits.TheConstants.{FIRST_CLIENT, LAST_CLIENT, CLIENTS, LAST_PROCESS, LAST_WORKER}
+use Rattle.binder.specs.declared.exports.TheConstants.{EXPORT_ROWS}
 use Rattle.replay_model.specs.Record.{ExportRow, Records, no_records}
 
 -- the exports and the next identifier; the entries of the activities; four workers; the packets that are

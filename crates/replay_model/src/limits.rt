@@ -1,6 +1,7 @@
 //! The numbers of things in the world that a script is played on, and the ranges of a script's numbers. Each stands
 //! here once: the definitions cite it, and so does the code of the parser and of the player.
 
+pub use binder::EXPORT_ROWS;
 use udp_frames::LARGEST_FRAME;
 
 /// The server's machine.
@@ -23,9 +24,6 @@ pub const LAST_WORKER: u8 = 4;
 
 /// The most packets that are ready at the server.
 pub const READY_CELLS: usize = 64;
-
-/// The rows of a server's exports.
-pub const EXPORT_ROWS: usize = 16;
 
 /// The server's number of small buffers, where a script gives no other.
 pub const SMALL_BUFFERS: usize = 256;

@@ -5,8 +5,9 @@ use Rattle.std.specs.Char.{is_ascii_digit}
 use Rattle.std.specs.List.{slice_split, onto_first, list_all, Contains}
 use Rattle.std.proofs.lemmas.Bool.{and_parts, and_from, ltb-true, ne_eqb, not_from_false}
 use Rattle.std.proofs.lemmas.Bool.Decides.{nat_tests}
+use Rattle.binder.specs.Names.{is_letter, is_digit, is_name, begins_with_letter, name_limit}
 use Rattle.replay_model.specs.Forms.{Place, The, Number, Name, Value, Numeral, Text, Form, forms}
-use Rattle.replay_model.specs.Script.{AllSay, is_blank, is_letter, is_letter_or_digit, is_name, words_of}
+use Rattle.replay_model.specs.Script.{AllSay, is_blank, words_of}
 use Rattle.replay_model.specs.TextFault.{is_byte_of_line, is_numeral, begins_plainly}
 use Rattle.script_text.proofs.FirstLine.{split_has_a_part}
 use Rattle.script_text.proofs.FirstWord.{some_byte}
@@ -25,21 +26,18 @@ all_more p q more (b ∷ bs) e =
 digit_is_fine : (b : ℕ) → is_ascii_digit b ≡ true → is_byte_of_line b ≡ true
 digit_is_fine b e = grind (arith, nat_tests)
 
-letter_or_digit_is_fine : (b : ℕ) → is_letter_or_digit b ≡ true → is_byte_of_line b ≡ true
+letter_or_digit_is_fine : (b : ℕ) → is_letter b || is_digit b ≡ true → is_byte_of_line b ≡ true
 letter_or_digit_is_fine b e = grind (arith, nat_tests)
-
-letter_is_fine : (b : ℕ) → is_letter b ≡ true → is_byte_of_line b ≡ true
-letter_is_fine b e = grind (arith, nat_tests)
 
 numeral_is_fine : (w : List ℕ) → is_numeral w ≡ true → fine w ≡ true
 numeral_is_fine w e = all_more is_ascii_digit is_byte_of_line digit_is_fine w (and_parts (list_all is_ascii_digit w) (begins_plainly w) e).0
 
 name_is_fine : (w : List ℕ) → IsTrue (is_name w) → fine w ≡ true
-name_is_fine [] e = refl
-name_is_fine (b ∷ bs) e =
-    let parts = and_parts (is_letter b && list_all is_letter_or_digit bs) (nat_le (length bs) 31) e in
-    let both = and_parts (is_letter b) (list_all is_letter_or_digit bs) parts.0 in
-    and_from _ _ (letter_is_fine b both.0) (all_more is_letter_or_digit is_byte_of_line letter_or_digit_is_fine bs both.1)
+name_is_fine w e =
+    let letters_or_digits : ℕ → Bool = λ b. is_letter b || is_digit b in
+    let parts = and_parts (begins_with_letter w && list_all letters_or_digits w) (nat_le (length w) name_limit) e in
+    let both = and_parts (begins_with_letter w) (list_all letters_or_digits w) parts.0 in
+    all_more letters_or_digits is_byte_of_line letter_or_digit_is_fine w both.1
 
 abbrev is_fine_place : Place → Bool
 is_fine_place (The text) = fine text

@@ -7,7 +7,8 @@ use Rattle.std.specs.Str.{bytes_eq}
 use Rattle.std.proofs.lemmas.Bool.{and_parts, and_from, or_cases, ltb-true, eqb-true, eq-eqb, false_from_ne_true, both_ways, not-true}
 use Rattle.std.proofs.lemmas.Slice.Eq.{bytes_eq-Decides}
 use Rattle.replay_model.specs.Forms.{Place, The, Number, Name, Value, Numeral, Text, Form, forms}
-use Rattle.replay_model.specs.Script.{AllSay, is_name}
+use Rattle.binder.specs.Names.{is_name}
+use Rattle.replay_model.specs.Script.{AllSay}
 use Rattle.replay_model.specs.TextFault.{agrees, is_playable, is_fitting, words_fault, number_fault, name_fault, value, values_of}
 use Rattle.replay_model.specs.declared.text_fault.TextFault.TheVariants as fault
 use Rattle.script_text.proofs.Numbers.{spells_number, spelled_number, passes}
