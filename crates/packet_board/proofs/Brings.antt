@@ -64,3 +64,55 @@ module _ {N : Type 0} where
           (λ is. subst (λ (j : ℕ). IsBuffer v.layout j x) is (bound x (some-injective z (Some x) (subst (λ t. (if t then some z else lookup (removed n c) m) ≡ some (Some x)) (eq-eqb n m is) e))))
           (λ ne. ready.bounded m x (sym (other_slot c n m ne) ∙ subst (λ t. (if t then some z else lookup (removed n c) m) ≡ some (Some x)) (ne_eqb n m ne) e))
     }
+
+  -- a write of the front slot
+  pub wrote : (m m' m'' : Mine N) (n : ℕ) (y z : Option Buffer) → m' ≡ (m.0, (n, y) ∷ removed n m.1) → m'' ≡ (m'.0, (n, z) ∷ rest m'.1) → m'' ≡ (m.0, (n, z) ∷ removed n m.1)
+  wrote m m' m'' n y z e f = f ∙ (λ i. ((e i).0, (n, z) ∷ rest (e i).1))
+
+front_of : Slots → Option Buffer
+front_of [] = None
+front_of (x ∷ xs) = x.1
+
+-- what the front slot held
+pub was_front : (c d : Slots) (n : ℕ) (y r : Option Buffer) → c ≡ (n, y) ∷ d → c ≡ (n, r) ∷ rest c → y ≡ r
+unfolding front_of
+was_front c d n y r e f = ap front_of (sym e ∙ f)
+
+buffer_or : Buffer → Option Buffer → Buffer
+buffer_or d None = d
+buffer_or d (Some y) = y
+
+pub one_buffer : (x y : Buffer) → Some x ≡ Some y → x ≡ y
+unfolding buffer_or
+one_buffer x y e = ap (buffer_or x) e
+
+full_or_not : Option Buffer → Type 0
+full_or_not None = Unit {0}
+full_or_not (Some y) = ⊥
+
+pub no_buffer : (y : Buffer) → None ≡ Some y → ⊥
+unfolding full_or_not
+no_buffer y e = subst full_or_not e tt
+
+module _ {N : Type 0} where
+  -- another view with the same hands
+  pub still_ready : (v w : View N) (c : Slots) → Ready v c → w.live ≡ v.live → w.pending ≡ 0 → w.hands ≡ v.hands → w.layout ≡ v.layout → Ready w c
+  still_ready v w c r live idle hands layout = record {
+      live = live ∙ r.live;
+      settled = idle;
+      tied = λ n. ap (times n) hands ∙ r.tied n;
+      single = λ n. subst (λ (h : List ℕ). times n h ≤ 1) (sym hands) (r.single n);
+      numbered = λ n h. subst (λ (l : Layout). n < buffers_of l) (sym layout) (r.numbered n (subst (λ (z : List ℕ). 1 ≤ times n z) hands h));
+      bounded = λ n y e. subst (λ (l : Layout). IsBuffer l n y) (sym layout) (r.bounded n y e)
+    }
+
+  -- a view with nothing in its hands
+  pub fresh_ready : (w : View N) → w.live ≡ true → w.pending ≡ 0 → w.hands ≡ [] → Ready w []
+  fresh_ready w live idle hands = record {
+      live = live;
+      settled = idle;
+      tied = λ n. ap (times n) hands;
+      single = λ n. let e : times n w.hands ≡ 0 = ap (times n) hands in omega (arith, e);
+      numbered = λ n h. let e : times n w.hands ≡ 0 = ap (times n) hands in absurd (omega (arith, h, e));
+      bounded = λ n y e. absurd (some-ne-none (Some y) (sym e))
+    }

@@ -68,7 +68,7 @@ one_same n b e = ap one_if (eq-eqb n b e)
 pub one_other : (n b : ℕ) → n ≢ b → one_if (n == b) ≡ 0
 one_other n b ne = ap one_if (ne_eqb n b ne)
 
-from_one : (t : Bool) → 1 ≤ one_if t → t ≡ true
+pub from_one : (t : Bool) → 1 ≤ one_if t → t ≡ true
 from_one true h = refl
 from_one false h = absurd (omega arith)
 

@@ -97,3 +97,6 @@ point_gone c n m once = let h : 1 ≤ times n (keys c) = omega (arith, once) in 
 -- what it holds after the slot is gone
 pub gone_held : (c : Slots) (n : ℕ) → times n (keys c) ≡ 1 → lookup (removed n c) ≡ updated n none (lookup c)
 gone_held c n once = λ i m. point_gone c n m once i
+
+pub no_hands : (c : Slots) → c ≡ [] → (b : ℕ) → times b (keys c) ≡ 0
+no_hands c e b = ap (λ (z : Slots). times b (keys z)) e
