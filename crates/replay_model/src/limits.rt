@@ -1,0 +1,34 @@
+//! The numbers of things in the world that a script is played on, and the ranges of a script's numbers. Each stands
+//! here once: the definitions cite it, and so does the code of the parser and of the player.
+
+use udp_frames::LARGEST_FRAME;
+
+/// The server's machine.
+pub const SERVER_MACHINE: u8 = 1;
+
+/// The first client's machine. The clients' machines follow one another.
+pub const FIRST_CLIENT: u8 = 2;
+
+/// The last client's machine.
+pub const LAST_CLIENT: u8 = 9;
+
+/// The last process of a client. Processes are numbered from 1.
+pub const LAST_PROCESS: u8 = 8;
+
+/// The last worker of the server. Workers are numbered from 1.
+pub const LAST_WORKER: u8 = 4;
+
+/// The most packets that are ready at the server.
+pub const READY_CELLS: usize = 64;
+
+/// The rows of a server's exports.
+pub const EXPORT_ROWS: usize = 16;
+
+/// The server's number of small buffers, where a script gives no other.
+pub const SMALL_BUFFERS: usize = 256;
+
+/// The server's number of long buffers, where a script gives no other.
+pub const LONG_BUFFERS: usize = 72;
+
+/// The last bit of the largest frame. Bits are numbered from 0.
+pub const LAST_BIT: u16 = (8 * LARGEST_FRAME - 1) as u16;
