@@ -7,3 +7,4 @@ pub mod Turns
 pub mod Joins
 pub mod Flows
 pub mod Swaps
+pub mod Openings

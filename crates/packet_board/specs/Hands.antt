@@ -2,6 +2,7 @@
 use Rattle.std.specs.Prelude.{◌≡◌, ℕ, ◌<◌, ◌==◌, Bool, true, false, if◌then◌else◌, List, [], ◌∷◌, map, slice_set, Option, Some, None}
 use mathlib.Core.Option.{none, some}
 use mathlib.Core.Option as maybe
+use lib.ListN.{get_elem?}
 use Rattle.packet_board.specs.declared.layout.Layout.{Layout}
 use Rattle.packet_board.specs.declared.buffer.Buffer.{Buffer}
 use Rattle.packet_board.specs.Words.{buffers_of, IsBuffer}
@@ -101,3 +102,7 @@ given_by (Some n) h = flat (h n)
 abbrev pub Found : Layout → Option ℕ → Option Buffer → Type 0
 Found k None y = y ≡ None
 Found k (Some o) y = (b : Buffer) × (y ≡ Some b) × (o < buffers_of k) × IsBuffer k o b
+
+-- each slot has its buffer
+abbrev pub AreThere : List (Option Buffer) → Type 0
+AreThere xs = (n : ℕ) (x : Option Buffer) → get_elem? xs n ≡ some x → (y : Buffer) × (x ≡ Some y)

@@ -7,7 +7,7 @@ use Rattle.packet_board.specs.declared.word.Word.{Word}
 use Rattle.packet_board.specs.declared.layout.Layout.{Layout}
 use Rattle.packet_board.specs.declared.buffer.Buffer.{Buffer}
 use Rattle.packet_board.specs.declared.view.View.{View}
-use Rattle.packet_board.specs.Words.{one_if, weigh, buffers_of, cell_count, first_cells, in_words, times, IsBuffer, IsNew}
+use Rattle.packet_board.specs.Words.{one_if, weigh, buffers_of, cell_count, first_cells, in_words, times, IsBuffer, AreNew}
 use Rattle.packet_board.specs.Hands.{gives_of, takes_of, placed, flat, Found}
 use Rattle.packet_board.specs.Views.{looked, exchanged, begun, settled, newcomer, opening_view, joined, spent, landed, told_out, in_hands}
 
@@ -60,9 +60,7 @@ module _ {N : Type 0} where
 
     -- a new board
     abbrev pub Opens : (Layout → Type 0) → (Layout → N) → Type 0
-    Opens fits first = (k : Layout) (xs : List (Option Buffer)) → fits k → length xs ≡ buffers_of k
-        → ((n : ℕ) (x : Option Buffer) → get_elem? xs n ≡ some x → (y : Buffer) × (x ≡ Some y) × IsNew k n y)
-        → holds k (first_cells k) xs (opening_view k (first k) ∷ [])
+    Opens fits first = (k : Layout) (xs : List (Option Buffer)) → fits k → AreNew k (buffers_of k) xs → holds k (first_cells k) xs (opening_view k (first k) ∷ [])
 
     -- a load, and an exchange that finds another word
     abbrev pub Looks : Type 0

@@ -1,5 +1,9 @@
 -- The words and buffers of a board: how its layout numbers them, the words that a new board has, how a word is packed into one number, and the bounds of a buffer.
 use Rattle.std.specs.Prelude.{◌≡◌, ℕ, zero, suc, ◌+◌, ◌*◌, ◌/◌, ◌%◌, ◌^◌, ◌<◌, ◌≤◌, ◌==◌, nat_lt, Bool, true, false, if◌then◌else◌, List, [], ◌∷◌, ◌++◌, map, length, replicate, slice_index_or, Option, Some, None}
+use mathlib.Core.Option.{some}
+use lib.ListN.{get_elem?}
+use Rattle.fragments.specs.declared.limits.TheConstants.{LONG, PIECE}
+use Rattle.packet_board.specs.declared.buffer.TheConstants.{SMALL_BYTES}
 use Rattle.packet_board.specs.declared.word.Word.{Word}
 use Rattle.packet_board.specs.declared.layout.Layout.{Layout}
 use Rattle.packet_board.specs.declared.buffer.Buffer.{Buffer}
@@ -32,12 +36,15 @@ empty = record { tag = 0; buffer = None }
 abbrev pub full : ℕ → Word
 full n = record { tag = 0; buffer = Some n }
 
-abbrev pub free_cells : ℕ → List Word
-free_cells zero = []
-free_cells (suc n) = free_cells n ++ full n ∷ []
+abbrev pub first_word : Layout → ℕ → Word
+first_word k cell = if nat_lt cell (buffers_of k) then full cell else empty
+
+abbrev pub first_words : Layout → ℕ → List Word
+first_words k zero = []
+first_words k (suc cell) = first_words k cell ++ first_word k cell ∷ []
 
 abbrev pub first_cells : Layout → List Word
-first_cells k = free_cells (buffers_of k) ++ replicate (others_of k) empty
+first_cells k = first_words k (cell_count k)
 
 -- tags have 52 bits, and a number of a buffer is at most 4094
 abbrev pub FitsBuffer : Option ℕ → Type 0
@@ -74,10 +81,10 @@ in_words b ws = weigh (λ w. names b w.buffer) ws
 
 -- small buffers come first: the bytes of a buffer by its number, and how many of them may be data
 abbrev pub bytes_of : Layout → ℕ → ℕ
-bytes_of k n = if nat_lt n k.small then 1514 else 92160
+bytes_of k n = if nat_lt n k.small then SMALL_BYTES else LONG
 
 abbrev pub room_of : Layout → ℕ → ℕ
-room_of k n = if nat_lt n k.small then 1440 else 92160
+room_of k n = if nat_lt n k.small then PIECE else LONG
 
 pub record IsBuffer (k : Layout) (n : ℕ) (y : Buffer) : Type 0 where
   pub bytes : length y.bytes ≡ bytes_of k n
@@ -90,3 +97,7 @@ pub record IsNew (k : Layout) (n : ℕ) (y : Buffer) : Type 0 where
   pub within : IsBuffer k n y
   pub no_data : y.len ≡ 0
   pub from_is : y.from ≡ 1
+
+-- as many slots as that, each with a new buffer
+abbrev pub AreNew : Layout → ℕ → List (Option Buffer) → Type 0
+AreNew k count xs = (length xs ≡ count) × ((n : ℕ) (x : Option Buffer) → get_elem? xs n ≡ some x → (y : Buffer) × (x ≡ Some y) × IsNew k n y)

@@ -1,15 +1,13 @@
 //! What lies behind a number.
 ghost use Rattle.std.specs.Prelude.{◌≡◌, ◌<◌, IfOk, length};
 
-use crate::standin::{Gathered, LONG};
+use fragments::Gathered;
 use item_list::Items;
 use rpc_header::{Activity, CallId, CallNumber, Export, Header, Kind};
 use std::alloc::{AllocError, Global};
 
 /// The bytes of a small buffer: a frame with the most data.
 pub const SMALL_BYTES: usize = 1514;
-/// The bytes of a long buffer: the longest arguments or results.
-pub const LONG_BYTES: usize = LONG;
 
 /// A packet's bytes, and what is known of them. `bytes` has 1514 bytes in a small buffer and 92,160 in a long one.
 #[derive(Debug, Drop)]

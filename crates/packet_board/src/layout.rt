@@ -1,6 +1,9 @@
 //! How many cells and buffers a board has.
 ghost use Rattle.std.specs.Prelude.{◌≡◌, ◌+◌, ◌<◌, ◌≤◌, ◌^◌};
-ghost use Rattle.packet_board.specs.Words.{buffers_of, cell_count};
+ghost use Rattle.packet_board.specs.Words.{buffers_of, bytes_of, cell_count};
+
+use crate::buffer::SMALL_BYTES;
+use fragments::LONG;
 
 /// The numbers of small and of long buffers, and the lengths of five rows of cells. The cells of a board are a free
 /// cell for each buffer, in the order of the buffers' numbers, and then the rows. Small buffers have the first numbers.
@@ -27,5 +30,16 @@ impl Layout {
     {
         let [first, second, third, fourth, fifth] = self.rows;
         self.small + self.long + (first + second + third + fourth + fifth)
+    }
+
+    /// The number of bytes of the buffer of that number.
+    pub fn bytes_of(&self, number: usize) -> usize
+        ensures { result ≡ bytes_of self.now number }
+    {
+        if number < self.small {
+            SMALL_BYTES
+        } else {
+            LONG
+        }
     }
 }

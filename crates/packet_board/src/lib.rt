@@ -4,18 +4,19 @@
 
 mod board;
 mod buffer;
+mod closing;
 mod law;
 mod layout;
+mod making;
 mod plays;
 mod seat;
 mod seats;
-mod standin;
 mod steps;
 mod view;
 mod word;
 
 pub use board::{Board, Closed, StillOut};
-pub use buffer::{Buffer, LONG_BYTES, SMALL_BYTES};
+pub use buffer::{Buffer, SMALL_BYTES};
 pub use law::{BoardLaw, Choice};
 pub use layout::Layout;
 pub use seat::Seat;
