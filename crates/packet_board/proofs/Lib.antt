@@ -8,3 +8,4 @@ pub mod Joins
 pub mod Flows
 pub mod Swaps
 pub mod Openings
+pub mod Closings

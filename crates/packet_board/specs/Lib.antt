@@ -4,3 +4,4 @@ pub mod Views
 pub mod Laws
 pub mod Rule
 pub mod Seats
+pub mod FreeWords

@@ -5,6 +5,7 @@
 mod board;
 mod buffer;
 mod closing;
+mod free_words;
 mod law;
 mod layout;
 mod making;
@@ -17,6 +18,7 @@ mod word;
 
 pub use board::{Board, Closed, StillOut};
 pub use buffer::{Buffer, SMALL_BYTES};
+pub use free_words::FreeWords;
 pub use law::{BoardLaw, Choice};
 pub use layout::Layout;
 pub use seat::Seat;
