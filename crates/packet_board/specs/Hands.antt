@@ -79,8 +79,15 @@ abbrev pub taken_in : Option ℕ → Option Buffer → Held → Held
 taken_in None y h = h
 taken_in (Some o) y h = updated o (some y) h
 
+abbrev pub nothing : Held
+nothing = λ n. none
+
 abbrev pub HoldsNothing : Held → Type 0
-HoldsNothing h = (n : ℕ) → h n ≡ none
+HoldsNothing h = h ≡ nothing
+
+-- one number is in the hands, and its buffer is in its slot
+abbrev pub HoldsOne : ℕ → Held → Type 0
+HoldsOne n h = (y : Buffer) × (h ≡ updated n (some (Some y)) nothing)
 
 -- the number is in the hands and its buffer is in its slot; it is in the hands and the buffer is out of its slot
 abbrev pub IsStowed : Held → ℕ → Type 0

@@ -8,7 +8,7 @@ use Rattle.packet_board.proofs.Joins.{merges_seat}
 use Rattle.packet_board.proofs.board.Board.join.Goals as goal
 
 pub join_seat-requires : goal.join_seat-requires
-join_seat-requires g c = let seat = c.args.seat.now in let other = c.args.other in let sized = c.args.self.now.sized.0 in let none = no_slots other.token.me.1 c.requires.empty in (
+join_seat-requires g c = let seat = c.args.seat.now in let other = c.args.other in let sized = c.args.self.now.sized.0 in let none = no_slots other.token.me.1 (λ n. ap (λ h. h n) c.requires.empty) in (
   c.requires.seat.0,
   c.requires.other.0,
   none,
