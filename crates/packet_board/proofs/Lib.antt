@@ -9,3 +9,4 @@ pub mod Flows
 pub mod Swaps
 pub mod Openings
 pub mod Closings
+pub mod Held

@@ -44,7 +44,19 @@ fn take(
     ensures done { IfOk result (λ _. HoldsOne number (held seat.new)) }
     ensures met { IfErr result (λ word. HoldsNothing (held seat.new)) }
 {
-    board.exchange::<Brand>(seat, cell, word(tag, number), EMPTY)
+    let full = Word {
+        tag,
+        buffer: Some(number),
+    };
+    board.exchange::<Brand>(
+        seat,
+        cell,
+        full,
+        Word {
+            tag: 0,
+            buffer: None,
+        },
+    )
 }
 
 // Puts the buffer in the hands into a cell that is thought to be empty.
@@ -62,7 +74,19 @@ fn put(
     ensures done { IfOk result (λ _. HoldsNothing (held seat.new)) }
     ensures met { IfErr result (λ word. HoldsOne number (held seat.new)) }
 {
-    board.exchange::<Brand>(seat, cell, EMPTY, word(tag, number))
+    let full = Word {
+        tag,
+        buffer: Some(number),
+    };
+    board.exchange::<Brand>(
+        seat,
+        cell,
+        Word {
+            tag: 0,
+            buffer: None,
+        },
+        full,
+    )
 }
 
 // Takes the buffer in the hands out of its slot, writes into it, and puts it back.
