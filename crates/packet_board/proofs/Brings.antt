@@ -55,15 +55,15 @@ module _ {N : Type 0} where
 
   pub ready_front : (v : View N) (c : Slots) (n : ℕ) (y z : Option Buffer) → Ready v c → lookup c n ≡ some y → ((x : Buffer) → z ≡ Some x → IsBuffer v.layout n x) → Ready v ((n, z) ∷ removed n c)
   ready_front v c n y z ready look bound = let once = counted_key c n y look in record {
-      live = ready.live;
-      settled = ready.settled;
-      tied = λ m. let w = times_without n m (keys c) once in let e = ap (times m) (keys_removed n c) in let t = ready.tied m in omega (arith, w, e, t);
-      single = ready.single;
-      numbered = ready.numbered;
-      bounded = λ m x e. dite (ℕ_discrete n m)
-          (λ is. subst (λ (j : ℕ). IsBuffer v.layout j x) is (bound x (some-injective z (Some x) (subst (λ t. (if t then some z else lookup (removed n c) m) ≡ some (Some x)) (eq-eqb n m is) e))))
-          (λ ne. ready.bounded m x (sym (other_slot c n m ne) ∙ subst (λ t. (if t then some z else lookup (removed n c) m) ≡ some (Some x)) (ne_eqb n m ne) e))
-    }
+    live = ready.live;
+    settled = ready.settled;
+    tied = λ m. let w = times_without n m (keys c) once in let e = ap (times m) (keys_removed n c) in let t = ready.tied m in omega (arith, w, e, t);
+    single = ready.single;
+    numbered = ready.numbered;
+    bounded = λ m x e. dite (ℕ_discrete n m)
+        (λ is. subst (λ (j : ℕ). IsBuffer v.layout j x) is (bound x (some-injective z (Some x) (subst (λ t. (if t then some z else lookup (removed n c) m) ≡ some (Some x)) (eq-eqb n m is) e))))
+        (λ ne. ready.bounded m x (sym (other_slot c n m ne) ∙ subst (λ t. (if t then some z else lookup (removed n c) m) ≡ some (Some x)) (ne_eqb n m ne) e));
+  }
 
   -- a write of the front slot
   pub wrote : (m m' m'' : Mine N) (n : ℕ) (y z : Option Buffer) → m' ≡ (m.0, (n, y) ∷ removed n m.1) → m'' ≡ (m'.0, (n, z) ∷ rest m'.1) → m'' ≡ (m.0, (n, z) ∷ removed n m.1)
@@ -98,21 +98,21 @@ module _ {N : Type 0} where
   -- another view with the same hands
   pub still_ready : (v w : View N) (c : Slots) → Ready v c → w.live ≡ v.live → w.pending ≡ 0 → w.hands ≡ v.hands → w.layout ≡ v.layout → Ready w c
   still_ready v w c r live idle hands layout = record {
-      live = live ∙ r.live;
-      settled = idle;
-      tied = λ n. ap (times n) hands ∙ r.tied n;
-      single = λ n. subst (λ (h : List ℕ). times n h ≤ 1) (sym hands) (r.single n);
-      numbered = λ n h. subst (λ (l : Layout). n < buffers_of l) (sym layout) (r.numbered n (subst (λ (z : List ℕ). 1 ≤ times n z) hands h));
-      bounded = λ n y e. subst (λ (l : Layout). IsBuffer l n y) (sym layout) (r.bounded n y e)
-    }
+    live = live ∙ r.live;
+    settled = idle;
+    tied = λ n. ap (times n) hands ∙ r.tied n;
+    single = λ n. subst (λ (h : List ℕ). times n h ≤ 1) (sym hands) (r.single n);
+    numbered = λ n h. subst (λ (l : Layout). n < buffers_of l) (sym layout) (r.numbered n (subst (λ (z : List ℕ). 1 ≤ times n z) hands h));
+    bounded = λ n y e. subst (λ (l : Layout). IsBuffer l n y) (sym layout) (r.bounded n y e);
+  }
 
   -- a view with nothing in its hands
   pub fresh_ready : (w : View N) → w.live ≡ true → w.pending ≡ 0 → w.hands ≡ [] → Ready w []
   fresh_ready w live idle hands = record {
-      live = live;
-      settled = idle;
-      tied = λ n. ap (times n) hands;
-      single = λ n. let e : times n w.hands ≡ 0 = ap (times n) hands in omega (arith, e);
-      numbered = λ n h. let e : times n w.hands ≡ 0 = ap (times n) hands in absurd (omega (arith, h, e));
-      bounded = λ n y e. absurd (some-ne-none (Some y) (sym e))
-    }
+    live = live;
+    settled = idle;
+    tied = λ n. ap (times n) hands;
+    single = λ n. let e : times n w.hands ≡ 0 = ap (times n) hands in omega (arith, e);
+    numbered = λ n h. let e : times n w.hands ≡ 0 = ap (times n) hands in absurd (omega (arith, h, e));
+    bounded = λ n y e. absurd (some-ne-none (Some y) (sym e));
+  }

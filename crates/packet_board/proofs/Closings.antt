@@ -84,13 +84,13 @@ module _ {N : Type 0} where
   lasts holds k id v ns xs live alone empty final = let s = final.0 in let kept = final.1.0 in let at = final.1.1 in let sound = kept.stands.sound in let zero_out = (sound.lonely id v at alone).0 in
       let ws : List Word = cells_of s.words in let out : ℕ = out_of s.words in let hs : Homes = s.homes in let vs : List (View N) = s.views in let same : s.words ≡ ns = final.2 in
       let free = none_in_hands k ws out hs vs id v sound at live zero_out empty in let named = λ (b : ℕ). let c = sound.custody b in let f = free b in let x : ℕ = in_words b ws in let y : ℕ = in_hands b vs in let z : ℕ = one_if (nat_lt b (buffers_of k)) in
-        let c' : x + y ≡ z = c in let f' : y ≡ 0 = f in let e : x ≡ z = omega (arith, c', f') in e in
+      let c' : x + y ≡ z = c in let f' : y ≡ 0 = f in let e : x ≡ z = omega (arith, c', f') in e in
       let long : length xs ≡ buffers_of k = sym final.3 ∙ sound.long in
       let home = λ (b : ℕ) (room : b < buffers_of k). sound.home b (named b ∙ ap one_if (lt-ltb b (buffers_of k) room)) in
       let full = λ (b : ℕ) (room : b < buffers_of k). let h = home b room in let e : get_elem? xs b ≡ some (Some h.0) = final.4 b (Some h.0) h.1 in e in
       let inside = λ (b : ℕ) (x : Option Buffer) (e : get_elem? xs b ≡ some x). let r : b < buffers_of k = subst (λ (z : ℕ). b < z) long (below xs b x e) in r in
       let all : map flat hs ≡ xs = same_items (map flat hs) xs (length_mapped flat hs ∙ final.3) (λ j a e. let room : j < buffers_of k = subst (λ (z : ℕ). j < z) (length_mapped flat hs ∙ sound.long) (below (map flat hs) j a e) in
-        let h = home j room in let is : Some h.0 ≡ a = some-injective (Some h.0) a (sym (mapped_at flat hs j (some (Some h.0)) h.1) ∙ e) in full j room ∙ ap some is) in record {
+      let h = home j room in let is : Some h.0 ≡ a = some-injective (Some h.0) a (sym (mapped_at flat hs j (some (Some h.0)) h.1) ∙ e) in full j room ∙ ap some is) in record {
         words = ap length (sym same) ∙ (cells_length s.words kept.some_word ∙ ap (λ (z : ℕ). z + 1) sound.wide);
         slots = long;
         there = λ j x e. let room = inside j x e in let h = home j room in (h.0, some-injective x (Some h.0) (sym e ∙ full j room));
@@ -104,8 +104,8 @@ module _ {N : Type 0} where
           custody = named;
           bounds = λ j y e. let f : get_elem? xs j ≡ some (Some y) = ap (λ (z : List (Option Buffer)). get_elem? z j) (sym is) ∙ mapped_at Some bs j y e in let room = inside j (Some y) f in let h = home j room in
               subst (IsBuffer k j) (one_buffer h.0 y (some-injective (Some h.0) (Some y) (sym (full j room) ∙ f))) h.2;
-          lawful = subst (λ (z : List (Option Buffer)). holds k ws z vs) (all ∙ sym is) kept.stands.lawful
-        }
+          lawful = subst (λ (z : List (Option Buffer)). holds k ws z vs) (all ∙ sym is) kept.stands.lawful;
+        };
       }
 
 pub filled_other : (fs : List Bool) (i k : ℕ) → k ≢ i → get_or (set fs i false) k false ≡ get_or fs k false

@@ -94,11 +94,11 @@ pub times_without : (n b : ℕ) (ns : List ℕ) → 1 ≤ times n ns → times b
 times_without n b [] h = absurd (omega arith)
 times_without n b (x ∷ xs) h = dite (ℕ_discrete x n)
     (λ e. let o : one_if (x == b) ≡ one_if (n == b) = ap (λ z. one_if (z == b)) e in
-      let goal : times b xs + one_if (n == b) ≡ one_if (x == b) + times b xs = omega (arith, o) in
-      subst (λ t. times b (if t then xs else x ∷ without n xs) + one_if (n == b) ≡ one_if (x == b) + times b xs) (sym (eq-eqb x n e)) goal)
+    let goal : times b xs + one_if (n == b) ≡ one_if (x == b) + times b xs = omega (arith, o) in
+    subst (λ t. times b (if t then xs else x ∷ without n xs) + one_if (n == b) ≡ one_if (x == b) + times b xs) (sym (eq-eqb x n e)) goal)
     (λ ne. let z = one_other x n ne in let more : 1 ≤ times n xs = omega (arith, z, h) in let r = times_without n b xs more in
-      let goal : (one_if (x == b) + times b (without n xs)) + one_if (n == b) ≡ one_if (x == b) + times b xs = omega (arith, r) in
-      subst (λ t. times b (if t then xs else x ∷ without n xs) + one_if (n == b) ≡ one_if (x == b) + times b xs) (sym (ne_eqb x n ne)) goal)
+    let goal : (one_if (x == b) + times b (without n xs)) + one_if (n == b) ≡ one_if (x == b) + times b xs = omega (arith, r) in
+    subst (λ t. times b (if t then xs else x ∷ without n xs) + one_if (n == b) ≡ one_if (x == b) + times b xs) (sym (ne_eqb x n ne)) goal)
 
 pub times_lose : (g : Option ℕ) (b : ℕ) (ns : List ℕ) → ((n : ℕ) → g ≡ Some n → 1 ≤ times n ns) → times b (lose g ns) + names b g ≡ times b ns
 times_lose None b ns h = omega arith

@@ -48,7 +48,7 @@ apart (Some o) None n = let h = one_at_most (o == n) in omega (arith, h)
 apart (Some o) (Some m) n = dite (ℕ_discrete o m)
     (λ e. let g = ap (names n) (same_gives o m e) in let t = ap (names n) (same_takes o m e) in omega (arith, g, t))
     (λ ne. let g = ap (names n) (other_gives o m ne) in let t = ap (names n) (other_takes o m ne) in let h = one_at_most (m == n) in
-      dite (ℕ_discrete o n) (λ e. let z = one_other m n (λ p. ne (e ∙ sym p)) in let h' = one_at_most (o == n) in omega (arith, g, t, z, h')) (λ no'. let z = one_other o n no' in omega (arith, g, t, z, h)))
+    dite (ℕ_discrete o n) (λ e. let z = one_other m n (λ p. ne (e ∙ sym p)) in let h' = one_at_most (o == n) in omega (arith, g, t, z, h')) (λ no'. let z = one_other o n no' in omega (arith, g, t, z, h)))
 
 full_here : {A : Type 0} → Option A → Type 0
 full_here None = ⊥

@@ -96,7 +96,7 @@ named_once : (k : Layout) (n b : ℕ) → b < n → in_words b (first_words k n)
 named_once k zero b h = absurd (omega arith)
 named_once k (suc n) b h = let m = weigh_more (λ (w : Word). names b w.buffer) (first_words k n) (first_word k n) in let x : ℕ = in_words b (first_words k n) in dite (ℕ_discrete n b)
     (λ e. let r : x ≡ 0 = not_yet k n b (subst (λ (z : ℕ). n ≤ z) e (omega arith)) in let o : names b (first_word k n).buffer ≡ one_if (nat_lt b (buffers_of k)) = subst (λ (z : ℕ). names b (first_word k z).buffer ≡ one_if (nat_lt b (buffers_of k))) (sym e) (named_own k b) in
-      m ∙ (omega (arith, r, o)))
+    m ∙ (omega (arith, r, o)))
     (λ ne. let r : x ≡ one_if (nat_lt b (buffers_of k)) = named_once k n b (omega arith) in let o = named_other k n b ne in m ∙ (omega (arith, r, o)))
 
 pub first_named : (k : Layout) (b : ℕ) → in_words b (first_cells k) ≡ one_if (nat_lt b (buffers_of k))
@@ -104,8 +104,10 @@ first_named k b = let room : buffers_of k ≤ cell_count k = omega arith in dite
     (λ h. not_yet k (cell_count k) b h ∙ sym (ap one_if (le-ltb b (buffers_of k) (omega (arith, h))))) (λ h. named_once k (cell_count k) b (lt_of_not-le h))
 
 pub more_new : (k : Layout) (n : ℕ) (xs : List (Option Buffer)) (y : Buffer) → AreNew k n xs → IsNew k n y → AreNew k (n + 1) (xs ++ Some y ∷ [])
-more_new k n xs y new is = (length-append xs (Some y ∷ []) ∙ (let e = new.0 in omega (arith, e)),
-    λ j x e. dite (ℕ_discrete j (length xs)) (λ h. (y, sym (at_pushed xs (Some y) x j e h), subst (λ (z : ℕ). IsNew k z y) (sym (h ∙ new.0)) is)) (λ ne. new.1 j x (at_push xs (Some y) x j e ne)))
+more_new k n xs y new is = (
+  length-append xs (Some y ∷ []) ∙ (let e = new.0 in omega (arith, e)),
+  λ j x e. dite (ℕ_discrete j (length xs)) (λ h. (y, sym (at_pushed xs (Some y) x j e h), subst (λ (z : ℕ). IsNew k z y) (sym (h ∙ new.0)) is)) (λ ne. new.1 j x (at_push xs (Some y) x j e ne)),
+)
 
 flat_some : (xs : List (Option Buffer)) → map flat (map some xs) ≡ xs
 flat_some [] = refl
@@ -136,10 +138,10 @@ module _ {N : Type 0} where
             counted = refl;
             of_layout = λ j u e l. subst (λ (z : View N). z.layout ≡ k) (one_view v u j e) refl;
             idle = λ j u e l. absurd (true≢false (ap (λ (z : View N). z.live) (one_view v u j e) ∙ l));
-            lonely = λ j u e l. absurd (true≢false (sym (ap (λ (z : View N). z.alone) (one_view v u j e) ∙ l)))
+            lonely = λ j u e l. absurd (true≢false (sym (ap (λ (z : View N). z.alone) (one_view v u j e) ∙ l)));
           };
-          lawful = subst (λ (z : List Word × List (Option Buffer)). holds k z.0 z.1 (v ∷ [])) (λ i. (sym (first_read k (cell_count k) few) i, sym (flat_some xs) i)) (opens k xs may new)
-        }
+          lawful = subst (λ (z : List Word × List (Option Buffer)). holds k z.0 z.1 (v ∷ [])) (λ i. (sym (first_read k (cell_count k) few) i, sym (flat_some xs) i)) (opens k xs may new);
+        };
       }
 
 pub new_buffer : (k : Layout) (n : ℕ) (y : Buffer) → length y.bytes ≡ bytes_of k n → y.len ≡ 0 → y.from ≡ 1 → IsNew k n y

@@ -31,9 +31,9 @@ pub other_slot : (c : Slots) (n m : ℕ) → n ≢ m → lookup (removed n c) m 
 other_slot [] n m h = refl
 other_slot (x ∷ xs) n m h = dite (ℕ_discrete x.0 n)
     (λ is. let ne : x.0 ≢ m = λ p. h (sym is ∙ p) in
-      subst (λ t. lookup (if t then xs else x ∷ removed n xs) m ≡ lookup (x ∷ xs) m) (sym (eq-eqb x.0 n is)) (sym (chosen x.0 m (some x.1) (lookup xs m) (lookup xs m) (λ p. absurd (ne p)) (λ _. refl))))
+    subst (λ t. lookup (if t then xs else x ∷ removed n xs) m ≡ lookup (x ∷ xs) m) (sym (eq-eqb x.0 n is)) (sym (chosen x.0 m (some x.1) (lookup xs m) (lookup xs m) (λ p. absurd (ne p)) (λ _. refl))))
     (λ ne. subst (λ t. lookup (if t then xs else x ∷ removed n xs) m ≡ lookup (x ∷ xs) m) (sym (ne_eqb x.0 n ne))
-      (ap (λ (z : maybe.Option (Option Buffer)). if x.0 == m then some x.1 else z) (other_slot xs n m h)))
+    (ap (λ (z : maybe.Option (Option Buffer)). if x.0 == m then some x.1 else z) (other_slot xs n m h)))
 
 pub keys_removed : (n : ℕ) (c : Slots) → keys (removed n c) ≡ without n (keys c)
 keys_removed n [] = refl
@@ -46,9 +46,9 @@ pub cut : (c : Slots) (n : ℕ) (y : Option Buffer) → lookup c n ≡ some y �
 cut [] n y e = absurd (some-ne-none y (sym e))
 cut (x ∷ xs) n y e = dite (ℕ_discrete x.0 n)
     (λ is. let o : some x.1 ≡ some y = subst (λ t. (if t then some x.1 else lookup xs n) ≡ some y) (eq-eqb x.0 n is) e in
-      ([], xs, (λ i. (is i, some-injective x.1 y o i) ∷ xs), subst (λ t. (if t then xs else x ∷ removed n xs) ≡ xs) (sym (eq-eqb x.0 n is)) refl))
+    ([], xs, (λ i. (is i, some-injective x.1 y o i) ∷ xs), subst (λ t. (if t then xs else x ∷ removed n xs) ≡ xs) (sym (eq-eqb x.0 n is)) refl))
     (λ ne. let o : lookup xs n ≡ some y = subst (λ t. (if t then some x.1 else lookup xs n) ≡ some y) (ne_eqb x.0 n ne) e in let r = cut xs n y o in
-      (x ∷ r.0, r.1, ap (λ (z : Slots). x ∷ z) r.2, subst (λ t. (if t then xs else x ∷ removed n xs) ≡ x ∷ (r.0 ++ r.1)) (sym (ne_eqb x.0 n ne)) (ap (λ (z : Slots). x ∷ z) r.3)))
+    (x ∷ r.0, r.1, ap (λ (z : Slots). x ∷ z) r.2, subst (λ t. (if t then xs else x ∷ removed n xs) ≡ x ∷ (r.0 ++ r.1)) (sym (ne_eqb x.0 n ne)) (ap (λ (z : Slots). x ∷ z) r.3)))
 
 -- each slot stands once, and none of them is at home
 abbrev pub Out : Homes → Slots → Type 0
@@ -74,11 +74,11 @@ rises (x ∷ xs) zs n y hs out = let t : Slots = xs ++ (n, y) ∷ zs in let k : 
     let apart : n ≢ k = λ e. let a = among xs zs n y in let b : 1 ≤ times k (keys t) = subst (λ (z : ℕ). 1 ≤ times z (keys t)) e a in omega (arith, b, once) in
     let hs' : Homes = set hs k (some x.1) in let room = below hs k none here.1 in
     let r = rises xs zs n y hs' (λ m h. let o = out m (omega (arith, h)) in let ne : m ≢ k = λ e. let b : 1 ≤ times k (keys t) = subst (λ (z : ℕ). 1 ≤ times z (keys t)) e h in omega (arith, b, once) in
-      ((let h' = o.0 in omega (arith, h')), set_else hs k m (some x.1) ne ∙ o.1)) in
+    ((let h' = o.0 in omega (arith, h')), set_else hs k m (some x.1) ne ∙ o.1)) in
     record {
       valid = (tt, (r.valid, subst (λ (z : Homes). get_elem? z k ≡ some (some x.1)) (sym r.homes) (set_else hs' n k (some y) (λ e. apart (sym e)) ∙ set_here hs k (some x.1) room)));
       carried = ap (λ (z : Slots). x ∷ z) r.carried;
-      homes = ap (λ (z : Homes). set z k none) r.homes ∙ (set_comm hs' n k (some y) none apart ∙ (ap (λ (z : Homes). set z n (some y)) (set-set hs k (some x.1) none) ∙ ap (λ (z : Homes). set z n (some y)) (set_again hs k none here.1)))
+      homes = ap (λ (z : Homes). set z k none) r.homes ∙ (set_comm hs' n k (some y) none apart ∙ (ap (λ (z : Homes). set z n (some y)) (set-set hs k (some x.1) none) ∙ ap (λ (z : Homes). set z n (some y)) (set_again hs k none here.1)));
     }
 
 point_front : (c : Slots) (n : ℕ) (z : Option Buffer) (m : ℕ) → lookup ((n, z) ∷ removed n c) m ≡ updated n (some z) (lookup c) m

@@ -63,18 +63,18 @@ module _ {N : Type 0} where
         custody = λ b. total b ∙ sound.custody b;
         home = λ b h. let p = words b in let a = apart old.buffer new.buffer b in let m = most b in let not_taken : names b t ≡ 0 = omega (arith, h, p, a, m) in
             dite (ℕ_discrete (names b g) 0)
-              (λ z. let o = sound.home b (omega (arith, h, p, not_taken, z)) in (o.0, placed_else t none (placed g (some given) hs) b not_taken ∙ (placed_else g (some given) hs b z ∙ o.1), o.2))
-              (λ nz. let one : 1 ≤ names b g = omega arith in let y = (can b (names_is b g one)).1 in
-                (y.0, placed_else t none (placed g (some given) hs) b not_taken ∙ (placed_here g (some given) hs b one (subst (λ (z : ℕ). b < z) (sym sound.long) y.2) ∙ ap (λ (z : Option Buffer). some (some z)) y.1), y.3));
+            (λ z. let o = sound.home b (omega (arith, h, p, not_taken, z)) in (o.0, placed_else t none (placed g (some given) hs) b not_taken ∙ (placed_else g (some given) hs b z ∙ o.1), o.2))
+            (λ nz. let one : 1 ≤ names b g = omega arith in let y = (can b (names_is b g one)).1 in
+            (y.0, placed_else t none (placed g (some given) hs) b not_taken ∙ (placed_here g (some given) hs b one (subst (λ (z : ℕ). b < z) (sym sound.long) y.2) ∙ ap (λ (z : Option Buffer). some (some z)) y.1), y.3));
         away = λ b room h. let p = words b in let a = apart old.buffer new.buffer b in
             dite (ℕ_discrete (names b t) 0)
-              (λ z. let none_given : names b g ≡ 0 = omega (arith, h, p, z) in placed_else t none (placed g (some given) hs) b z ∙ (placed_else g (some given) hs b none_given ∙ sound.away b room (omega (arith, h, p, z, none_given))))
-              (λ nz. let one : 1 ≤ names b t = omega arith in placed_here t none (placed g (some given) hs) b one (subst (λ (z : ℕ). b < z) (sym (length_placed g (some given) hs ∙ sound.long)) room));
+            (λ z. let none_given : names b g ≡ 0 = omega (arith, h, p, z) in placed_else t none (placed g (some given) hs) b z ∙ (placed_else g (some given) hs b none_given ∙ sound.away b room (omega (arith, h, p, z, none_given))))
+            (λ nz. let one : 1 ≤ names b t = omega arith in placed_here t none (placed g (some given) hs) b one (subst (λ (z : ℕ). b < z) (sym (length_placed g (some given) hs ∙ sound.long)) room));
         balanced = let s = weigh_set (λ (z : View N). z.ended) vs id v w at in let r = weigh_set (λ (z : View N). z.begun) vs id v w at in let c = sound.balanced in omega (arith, s, r, c);
         counted = let s = weigh_set (λ (z : View N). one_if z.live) vs id v w at in let r = weigh_set (λ (z : View N). z.pending) vs id v w at in let c = sound.counted in omega (arith, s, r, c);
         of_layout = λ j u e l. ⊎_elim (λ p. subst (λ (z : View N). z.layout ≡ k) p.1 (sound.of_layout id v at live)) (λ p. sound.of_layout j u p.1 l) (at_set vs id j w u e);
         idle = λ j u e l. ⊎_elim (λ p. absurd (true≢false (sym live ∙ (ap (λ (z : View N). z.live) p.1 ∙ l)))) (λ p. sound.idle j u p.1 l) (at_set vs id j w u e);
-        lonely = λ j u e l. ⊎_elim (λ p. let a = sound.lonely id v at (ap (λ (z : View N). z.alone) p.1 ∙ l) in (a.0, ap (λ (z : View N). z.pending) (sym p.1) ∙ a.1, ap (λ (z : View N). z.live) (sym p.1) ∙ a.2)) (λ p. sound.lonely j u p.1 l) (at_set vs id j w u e)
+        lonely = λ j u e l. ⊎_elim (λ p. let a = sound.lonely id v at (ap (λ (z : View N). z.alone) p.1 ∙ l) in (a.0, ap (λ (z : View N). z.pending) (sym p.1) ∙ a.1, ap (λ (z : View N). z.live) (sym p.1) ∙ a.2)) (λ p. sound.lonely j u p.1 l) (at_set vs id j w u e);
       }
 
   given_buffer : (v : View N) (c : Slots) (k : Layout) (g : Option ℕ) → Ready v c → v.layout ≡ k → CanGive g (lookup c) → (n : ℕ) → g ≡ Some n → (1 ≤ times n v.hands) × ((y : Buffer) × (given_by g (lookup c) ≡ Some y) × (n < buffers_of k) × IsBuffer k n y)
@@ -113,7 +113,7 @@ module _ {N : Type 0} where
         let giver = given_buffer v c k g ready lay can in let ga = giving g hs c (outs k ws out hs vs id v c sound at ready) can in
         let hs' : Homes = homes_after hs c ga.act in let c' : Slots = carried_after c ga.act in
         let ta = taking t found hs' c' (λ o e. let none_given : names o g ≡ 0 = (let p = apart old.buffer new.buffer o in let q : names o t ≡ 1 = ap (names o) e ∙ names_self o in omega (arith, p, q)) in
-          ap (λ (z : Homes). get_elem? z o) ga.homes ∙ (placed_else g (some given) hs o none_given ∙ f.2 o e)) in
+        ap (λ (z : Homes). get_elem? z o) ga.homes ∙ (placed_else g (some given) hs o none_given ∙ f.2 o e)) in
         let p = picks ws out hs vs found record { seen = seen_of holds k s id v kept at ready.live; at_cell = here; given = λ n e. (giver n e).0; sort = f.1; taken = f.2 } in
         let w : View N = exchanged v cell old new p.0 in
         let homes : homes_after hs' c' ta.act ≡ placed t none (placed g (some given) hs) = ta.homes ∙ ap (λ (z : Homes). placed t none z) ga.homes in
@@ -127,17 +127,20 @@ module _ {N : Type 0} where
             some_word = subst (λ (z : ℕ). 0 < z) (sym (length-set s.words i b)) kept.some_word;
             stands = record {
               sound = subst (λ (z : List Word × ℕ × Homes). Sound k z.0 z.1 z.2 (set vs id w)) (λ j. (sym (cells_set s.words i b pos) j, sym (out_kept s.words i b pos) j, sym homes j)) after;
-              lawful = subst (λ (z : List Word × List (Option Buffer)). holds k z.0 z.1 (set vs id w)) (λ j. (sym (cells_set s.words i b pos) j, sym (ap (map flat) homes ∙ flats) j)) law
-            }
+              lawful = subst (λ (z : List Word × List (Option Buffer)). holds k z.0 z.1 (set vs id w)) (λ j. (sym (cells_set s.words i b pos) j, sym (ap (map flat) homes ∙ flats) j)) law;
+            };
           },
-          ((λ _. record {
-            found = found;
-            notes = p.0;
-            sort = subst (λ (l : Layout). Found l t found) (sym lay) f.1;
-            fresh = λ o e. let m = weigh_at (λ (z : View N). times o z.hands) vs id v at in let z = (taken o e).1 in let y : ℕ = in_hands o vs in let m' : times o v.hands ≤ y = m in let z' : y ≡ 0 = z in omega (arith, m', z');
-            picked = p.2;
-            after = λ j. (w, (ta.carried ∙ ap (λ (z : Slots). take_in t found z) ga.carried) j)
-          }), λ ne. absurd (ne hit)),
+          (
+            (λ _. record {
+              found = found;
+              notes = p.0;
+              sort = subst (λ (l : Layout). Found l t found) (sym lay) f.1;
+              fresh = λ o e. let m = weigh_at (λ (z : View N). times o z.hands) vs id v at in let z = (taken o e).1 in let y : ℕ = in_hands o vs in let m' : times o v.hands ≤ y = m in let z' : y ≡ 0 = z in omega (arith, m', z');
+              picked = p.2;
+              after = λ j. (w, (ta.carried ∙ ap (λ (z : Slots). take_in t found z) ga.carried) j);
+            }),
+            λ ne. absurd (ne hit),
+          ),
         )
 
     pub swaps : Allows (Kept holds k) slots id me i (λ n. either (eqb n a) b n) (swapped (λ v cell old new found notes. chooses v found notes) tells (step slots i a b none) me)
@@ -153,7 +156,7 @@ module _ {N : Type 0} where
   after_bounded v c g None found ready once sort n y e = dropped_bounded v c g ready once n y e
   after_bounded v c g (Some o) found ready once sort n y e = dite (ℕ_discrete o n)
       (λ is. let f : found ≡ Some y = some-injective found (Some y) (subst (λ t. (if t then some found else lookup (drop_out g c) n) ≡ some (Some y)) (eq-eqb o n is) e) in
-        subst (λ (z : ℕ). IsBuffer v.layout z y) is (subst (λ (z : Buffer). IsBuffer v.layout o z) (one_buffer sort.0 y (sym sort.1 ∙ f)) sort.3))
+      subst (λ (z : ℕ). IsBuffer v.layout z y) is (subst (λ (z : Buffer). IsBuffer v.layout o z) (one_buffer sort.0 y (sym sort.1 ∙ f)) sort.3))
       (λ ne. dropped_bounded v c g ready once n y (subst (λ t. (if t then some found else lookup (drop_out g c) n) ≡ some (Some y)) (ne_eqb o n ne) e))
 
   -- what is given away is in the hands just once
@@ -174,7 +177,7 @@ module _ {N : Type 0} where
         single = λ n. let h = hands n in let s = ready.single n in let m = names_at_most n t in
             dite (ℕ_discrete (names n t) 0) (λ z. omega (arith, h, s, z)) (λ nz. let z = fresh n (names_is n t (omega arith)) in omega (arith, h, m, z));
         numbered = λ n h. let p = hands n in dite (ℕ_discrete (names n t) 0) (λ z. ready.numbered n (omega (arith, p, h, z))) (λ nz. taken_room v.layout t found sort n (omega arith));
-        bounded = after_bounded v c g t found ready once sort
+        bounded = after_bounded v c g t found ready once sort;
       }
 
   -- and so it is whatever the exchange found
@@ -188,10 +191,10 @@ module _ {N : Type 0} where
   pub told_done : (chooses : View N → Option Buffer → N → Type 0) (k : Layout) (cell : ℕ) (old new : Word) (m m' : Mine N) → m.0.layout ≡ k → Ready m.0 m.1 → CanGive (gives_of old.buffer new.buffer) (lookup m.1)
       → Swapped (λ v c o n found notes. chooses v found notes) cell old new m m' → Exchanged chooses k m.0 m'.0 (lookup m.1) (lookup m'.1) cell old new
   told_done chooses k cell old new m m' lay ready can d = record {
-      found = d.found;
-      notes = d.notes;
-      sort = subst (λ (l : Layout). Found l (takes_of old.buffer new.buffer) d.found) lay d.sort;
-      chosen = d.picked;
-      view_after = ap (λ (z : Mine N). z.0) d.after;
-      held_after = ap (λ (z : Mine N). lookup z.1) d.after ∙ held_after (gives_of old.buffer new.buffer) (takes_of old.buffer new.buffer) d.found m.1 (given_once m.0 m.1 (gives_of old.buffer new.buffer) ready can)
-    }
+    found = d.found;
+    notes = d.notes;
+    sort = subst (λ (l : Layout). Found l (takes_of old.buffer new.buffer) d.found) lay d.sort;
+    chosen = d.picked;
+    view_after = ap (λ (z : Mine N). z.0) d.after;
+    held_after = ap (λ (z : Mine N). lookup z.1) d.after ∙ held_after (gives_of old.buffer new.buffer) (takes_of old.buffer new.buffer) d.found m.1 (given_once m.0 m.1 (gives_of old.buffer new.buffer) ready can);
+  }

@@ -33,9 +33,9 @@ replaced : (vs : Seats) (id : ℕ) (v w : View Bool) → OneSplits vs → get_el
 replaced vs id v w one at same keeps i j x y ei ej right ne = ⊎_elim
     (λ p. ⊎_elim (λ q. absurd (ne (q.0 ∙ sym p.0))) (λ q. one id j v y at q.1 (sym same ∙ (ap (λ (z : View Bool). z.notes) p.1 ∙ right)) q.0) (at_set vs id j w y ej))
     (λ p. ⊎_elim
-      (λ q. let o = one i id x v p.1 at right (λ e. p.0 (sym e)) in let off = ap (λ (z : View Bool). z.notes) (sym q.1) ∙ (same ∙ o.0) in
-        (off, subst (λ (z : View Bool). z.begun ≤ z.ended) q.1 (⊎_elim (λ r. absurd (true≢false (sym r ∙ o.0))) (λ r. subst (λ (z : ℕ × ℕ). z.0 ≤ z.1) (λ n. (sym r.0 n, sym r.1 n)) o.1) keeps)))
-      (λ q. one i j x y p.1 q.1 right ne) (at_set vs id j w y ej))
+    (λ q. let o = one i id x v p.1 at right (λ e. p.0 (sym e)) in let off = ap (λ (z : View Bool). z.notes) (sym q.1) ∙ (same ∙ o.0) in
+    (off, subst (λ (z : View Bool). z.begun ≤ z.ended) q.1 (⊎_elim (λ r. absurd (true≢false (sym r ∙ o.0))) (λ r. subst (λ (z : ℕ × ℕ). z.0 ≤ z.1) (λ n. (sym r.0 n, sym r.1 n)) o.1) keeps)))
+    (λ q. one i j x y p.1 q.1 right ne) (at_set vs id j w y ej))
     (at_set vs id i w x ei)
 
 one_only : (v x : View Bool) (j : ℕ) → get_elem? (v ∷ []) j ≡ some x → j ≡ 0
@@ -70,9 +70,9 @@ free_parts k ws out hs vs id v seen may idle = joined_by _ (newcomer false (begu
 pub free_merges : Merges free_holds may_split (λ a b. a) false
 free_merges k ws out hs vs id v other w seen may idle ne at live empty rests i j x y ei ej right apart =
     let one = replaced vs id v (joined (λ a b. a) v w) seen.lawful seen.seat refl (inl may) in let s : View Bool = spent false in let vs' : Seats = slice_set vs id (joined (λ a b. a) v w) in ⊎_elim
-      (λ p. absurd (true≢false (sym right ∙ ap (λ (z : View Bool). z.notes) (sym p.1))))
-      (λ p. ⊎_elim (λ q. subst (λ (z : View Bool). (z.notes ≡ false) × (z.begun ≤ z.ended)) q.1 (refl, le_refl 0)) (λ q. one i j x y p.1 q.1 right apart) (at_set vs' other j s y ej))
-      (at_set vs' other i s x ei)
+    (λ p. absurd (true≢false (sym right ∙ ap (λ (z : View Bool). z.notes) (sym p.1))))
+    (λ p. ⊎_elim (λ q. subst (λ (z : View Bool). (z.notes ≡ false) × (z.begun ≤ z.ended)) q.1 (refl, le_refl 0)) (λ q. one i j x y p.1 q.1 right apart) (at_set vs' other j s y ej))
+    (at_set vs' other i s x ei)
 
 pub free_ends : Ends free_holds may_split (λ a b. a)
 free_ends k ws out hs vs id v w seen may idle = replaced vs id (joined (λ a b. a) v w) _ seen.lawful seen.seat refl (inl may)

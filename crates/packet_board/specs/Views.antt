@@ -25,7 +25,7 @@ module _ {N : Type 0} where
     steps = v.steps + 1;
     met = meeting cell new (v.steps + 1) ∷ v.met;
     past = meeting cell new (v.steps + 1) ∷ v.past;
-    notes = notes
+    notes = notes;
   }
 
   -- the two steps of a split: one more seat is out, and then there is the new seat

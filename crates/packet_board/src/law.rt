@@ -19,7 +19,9 @@ pub trait BoardLaw {
 
     /// The notes of the first seat, of a seat that was split off, and of two seats that were joined.
     ghost first: { Layout → Self.Notes };
+
     ghost blank: { Self.Notes };
+
     ghost both: { Self.Notes → Self.Notes → Self.Notes };
 
     /// What holds between any two steps.
@@ -32,13 +34,21 @@ pub trait BoardLaw {
     ghost splits: { View Self.Notes → Type 0 };
 
     ghost opens: { Opens holds fits first };
+
     ghost looks: { Looks holds };
+
     ghost exchanges: { Exchanges holds allows };
+
     ghost counts: { Counts holds };
+
     ghost begins: { Begins holds splits };
+
     ghost parts: { Parts holds splits blank };
+
     ghost merges: { Merges holds splits both blank };
+
     ghost ends: { Ends holds splits both };
+
     ghost bounds: { Bounds holds splits };
 }
 

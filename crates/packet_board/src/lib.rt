@@ -22,6 +22,7 @@ pub use free_words::FreeWords;
 pub use law::{BoardLaw, Choice};
 pub use layout::Layout;
 pub use seat::Seat;
+
 #[cfg(test)]
 mod tests;
 

@@ -22,9 +22,7 @@ impl<L: BoardLaw> Board<L> {
         ensures held { held seat.new ≡ held seat.old }
         ensures made { IsSeatOf self.now result × (view result ≡ newcomer L.blank (view seat.old)) × HoldsNothing (held result) }
     {
-        self.table
-            .shared
-            .fetch_add::<Begin>(&mut seat.token, 0, 1);
+        self.table.shared.fetch_add::<Begin>(&mut seat.token, 0, 1);
         let token = self.table.shared.split_seat::<Part<L>>(&mut seat.token);
         Seat { token }
     }
@@ -43,9 +41,7 @@ impl<L: BoardLaw> Board<L> {
         self.table
             .shared
             .join_seat::<Merge<L>>(&mut seat.token, token);
-        self.table
-            .shared
-            .fetch_sub::<End>(&mut seat.token, 0, 1);
+        self.table.shared.fetch_sub::<End>(&mut seat.token, 0, 1);
     }
 
     /// Whether no other seat is out; or else the number of those that were split off and not joined.
@@ -57,10 +53,6 @@ impl<L: BoardLaw> Board<L> {
         ensures held { held seat.new ≡ held seat.old }
     {
         let out = self.table.shared.load::<Count<L>>(&mut seat.token, 0);
-        if out == 0 {
-            Ok(())
-        } else {
-            Err(out)
-        }
+        if out == 0 { Ok(()) } else { Err(out) }
     }
 }

@@ -50,12 +50,10 @@ impl<L: BoardLaw> Board<L> {
         ensures met { IfErr result (λ word. (word ≢ old) × Fits word × M.tells (view seat.old) word × (view seat.new ≡ looked (view seat.old) cell word) × (held seat.new ≡ held seat.old)) }
     {
         let expected = old.pack();
-        let found = self.table.shared.compare_exchange::<Swap<L, M>>(
-            &mut seat.token,
-            cell + 1,
-            expected,
-            new.pack(),
-        );
+        let found = self
+            .table
+            .shared
+            .compare_exchange::<Swap<L, M>>(&mut seat.token, cell + 1, expected, new.pack());
         if found == expected {
             Ok(())
         } else {
@@ -70,9 +68,7 @@ impl<L: BoardLaw> Board<L> {
         ensures seat { (seat.new.token.table_id ≡ seat.old.token.table_id) × (seat.new.token.id ≡ seat.old.token.id) }
         ensures front { (y : Option Buffer) × (held seat.old n ≡ some y) × (seat.new.token.me ≡ (seat.old.token.me.0, (n, y) ∷ removed n seat.old.token.me.1)) }
     {
-        self.table
-            .shared
-            .load::<Bring>(&mut seat.token, n as usize);
+        self.table.shared.load::<Bring>(&mut seat.token, n as usize);
     }
 
     /// Takes the buffer of a number in the hands out of its slot. No byte is copied.
@@ -86,7 +82,11 @@ impl<L: BoardLaw> Board<L> {
         ensures held { held seat.new ≡ updated n (some None) (held seat.old) }
     {
         self.bring(seat, n);
-        match self.table.shared.exchange(&mut seat.token, n as usize, None) {
+        match self
+            .table
+            .shared
+            .exchange(&mut seat.token, n as usize, None)
+        {
             Some(buffer) => buffer,
             None => unreachable!(),
         }
@@ -102,7 +102,8 @@ impl<L: BoardLaw> Board<L> {
         ensures held { held seat.new ≡ updated n (some (Some buffer)) (held seat.old) }
     {
         self.bring(seat, n);
-        match self.table
+        match self
+            .table
             .shared
             .exchange(&mut seat.token, n as usize, Some(buffer))
         {

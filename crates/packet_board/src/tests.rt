@@ -108,7 +108,11 @@ fn a_board_with_a_seat_out_does_not_close(rt: HostRuntime) -> Result<(), Fail> {
     let (board, mut seat) = Board::<FreeWords>::make(rt.alloc(), LAYOUT)?;
     let other = board.split(&mut seat);
     assert_eq!(rt; board.alone(&mut seat), Err(1));
-    let StillOut { board, mut seat, out } = match board.close(seat) {
+    let StillOut {
+        board,
+        mut seat,
+        out,
+    } = match board.close(seat) {
         Ok(_) => panic!(rt; "a seat is out"),
         Err(still) => still,
     };
@@ -117,7 +121,10 @@ fn a_board_with_a_seat_out_does_not_close(rt: HostRuntime) -> Result<(), Fail> {
     let Ok(closed) = board.close(seat) else {
         panic!(rt; "no seat is out")
     };
-    assert_eq!(rt; closed.words.as_slice(), [word(0, 0), word(0, 1), EMPTY, EMPTY].as_slice());
+    assert_eq!(rt;
+        closed.words.as_slice(),
+        [word(0, 0), word(0, 1), EMPTY, EMPTY].as_slice()
+    );
     let [small, long] = closed.buffers.as_slice() else {
         panic!(rt; "two buffers")
     };
@@ -127,7 +134,7 @@ fn a_board_with_a_seat_out_does_not_close(rt: HostRuntime) -> Result<(), Fail> {
 }
 
 #[test]
-fn of_two_seats_one_loses_each_race(rt: HostRuntime) -> Result<(), Fail> {
+fn of_two_seats_one_takes_a_buffer(rt: HostRuntime) -> Result<(), Fail> {
     let (board, mut one) = Board::<FreeWords>::make(rt.alloc(), LAYOUT)?;
     let mut two = board.split(&mut one);
     assert_eq!(rt; board.load::<Brand>(&mut one, 0), word(0, 0));
@@ -139,32 +146,31 @@ fn of_two_seats_one_loses_each_race(rt: HostRuntime) -> Result<(), Fail> {
         panic!(rt; "the buffer is gone")
     };
     assert_eq!(rt; met, EMPTY);
+    board.join(&mut one, two);
     let Ok(()) = put(&board, &mut one, 3, 7, 0) else {
         panic!(rt; "the cell is empty")
     };
-    let Ok(()) = take(&board, &mut one, 1, 0, 1) else {
+    assert_eq!(rt; board.load::<Brand>(&mut one, 3), word(7, 0));
+    Ok(())
+}
+
+#[test]
+fn of_two_seats_one_fills_a_cell(rt: HostRuntime) -> Result<(), Fail> {
+    let (board, mut one) = Board::<FreeWords>::make(rt.alloc(), LAYOUT)?;
+    let mut two = board.split(&mut one);
+    let Ok(()) = take(&board, &mut one, 0, 0, 0) else {
+        panic!(rt; "the small buffer is there")
+    };
+    let Ok(()) = take(&board, &mut two, 1, 0, 1) else {
         panic!(rt; "the long buffer is there")
     };
-    let Err(met) = put(&board, &mut one, 3, 9, 1) else {
-        panic!(rt; "the cell has a buffer")
+    let Ok(()) = put(&board, &mut one, 3, 7, 0) else {
+        panic!(rt; "the cell is empty")
+    };
+    let Err(met) = put(&board, &mut two, 3, 9, 1) else {
+        panic!(rt; "the cell is full")
     };
     assert_eq!(rt; met, word(7, 0));
-    let Ok(()) = put(&board, &mut one, 1, 0, 1) else {
-        panic!(rt; "the free cell is empty")
-    };
-    let Ok(()) = take(&board, &mut two, 3, 7, 0) else {
-        panic!(rt; "the buffer is there")
-    };
-    let Err(met) = take(&board, &mut one, 3, 7, 0) else {
-        panic!(rt; "the buffer is gone")
-    };
-    assert_eq!(rt; met, EMPTY);
-    let Ok(()) = put(&board, &mut two, 0, 0, 0) else {
-        panic!(rt; "the free cell is empty")
-    };
-    board.join(&mut one, two);
-    assert_eq!(rt; board.alone(&mut one), Ok(()));
-    assert!(rt; board.close(one).is_ok());
     Ok(())
 }
 

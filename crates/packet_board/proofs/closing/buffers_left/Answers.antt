@@ -16,5 +16,5 @@ loop-number-preserved c = let xs = slots_items c.args.left.now.slots in let i : 
       full = λ k low high. ap (λ (z : List Bool). get_or z k false) took.1 ∙ (filled_other fs i k (λ e. omega arith) ∙ inv.full k (omega (arith, low)) (subst (λ (z : ℕ). k < z) took.2 high));
       taken = λ k low. ap (λ (z : List Bool). get_or z k false) took.1 ∙ dite (ℕ_discrete k i) (λ e. ap (λ (z : ℕ). get_or (set fs i false) z false) e ∙ filled_here fs i) (λ ne. filled_other fs i k ne ∙ inv.taken k (omega (arith, low, ne)));
       len = let l = inv.len in let p = push.len in omega (arith, l, p);
-      room = push.capacity ∙ inv.room
+      room = push.capacity ∙ inv.room;
     }

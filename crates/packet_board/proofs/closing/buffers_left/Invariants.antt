@@ -10,5 +10,5 @@ invariant-loop-number l = record {
   full : (k : ℕ) → l.number ≤ k → k < slots_len l.left.slots → slice_index_or (slots_filled l.left.slots) k false ≡ true;
   taken : (k : ℕ) → k < l.number → slice_index_or (slots_filled l.left.slots) k false ≡ false;
   len : vec_len l.buffers ≡ l.number;
-  room : vec_capacity l.buffers ≡ l.count
+  room : vec_capacity l.buffers ≡ l.count;
 }
