@@ -1,23 +1,23 @@
 -- A load that brings a slot to the front, and what a seat is ready for after its front slot changed.
-use Rattle.std.proofs.Common.{◌≡◌, ◌≢◌, ℕ, zero, suc, ◌+◌, ◌<◌, ◌≤◌, ◌==◌, true, eqb, eq-eqb, ne_eqb, if◌then◌else◌, nat_lt, List, [], ◌∷◌, ◌++◌, length, map, set, set-set, get_or, Option, Some, None, refl, sym, ap, ◌∙◌, subst, arith}
+use Rattle.std.proofs.Common.{◌≡◌, ℕ, ◌+◌, ◌<◌, ◌≤◌, true, eq-eqb, ne_eqb, if◌then◌else◌, nat_lt, List, [], ◌∷◌, ◌++◌, set, set-set, get_or, Option, Some, None, sym, ap, ◌∙◌, subst, arith}
 use Rattle.std.proofs.lemmas.List.{set-get_or}
 use mathlib.Core.Option.{some, none, some-injective, some-ne-none}
 use mathlib.Core.Logic.{dite}
 use native.Mathlib.Decide.{ℕ_discrete}
 use lib.ListN.{get_elem?}
-use Rattle.atomic_table.specs.Table.{State, Me, Act, step, keeps, takes, gives, chain, carried_after, homes_after, Valid, Allows, rest}
-use Rattle.atomic_table.proofs.Lists.{set_here, set_else, set_again}
+use Rattle.atomic_table.specs.Table.{State, Act, step, takes, chain, homes_after, Allows, rest}
+use Rattle.atomic_table.proofs.Lists.{set_here, set_again}
 use Rattle.packet_board.specs.declared.word.Word.{Word}
 use Rattle.packet_board.specs.declared.layout.Layout.{Layout}
 use Rattle.packet_board.specs.declared.buffer.Buffer.{Buffer}
 use Rattle.packet_board.specs.declared.view.View.{View}
-use Rattle.packet_board.specs.Words.{one_if, weigh, names, times, in_words, buffers_of, cell_count, IsBuffer}
-use Rattle.packet_board.specs.Hands.{without, Slots, Held, lookup, removed, keys, updated}
+use Rattle.packet_board.specs.Words.{one_if, times, in_words, buffers_of, cell_count, IsBuffer}
+use Rattle.packet_board.specs.Hands.{Slots, lookup, removed, keys}
 use Rattle.packet_board.specs.Views.{in_hands}
-use Rattle.packet_board.specs.Laws.{Homes, Sound, Law, Stands, Seen}
+use Rattle.packet_board.specs.Laws.{Homes, Sound, Law}
 use Rattle.packet_board.specs.Rule.{Kept, Ready, Mine, cells_of, out_of, brought}
-use Rattle.packet_board.proofs.Counts.{below, one_same, one_at_most, times_without, weigh_at}
-use Rattle.packet_board.proofs.Slots.{counted_key, no_key, other_slot, keys_removed, cut, Out, rise, Given, rises}
+use Rattle.packet_board.proofs.Counts.{below, one_at_most, times_without, weigh_at}
+use Rattle.packet_board.proofs.Slots.{counted_key, other_slot, keys_removed, cut, Out, rise, Given, rises}
 
 -- the act that gives a slot back from wherever it stands among the seat's
 pub lifted : (hs : Homes) (c : Slots) (n : ℕ) (y : Option Buffer) → Out hs c → lookup c n ≡ some y → (a : Act (Option Buffer)) × Given hs c a n y (removed n c)

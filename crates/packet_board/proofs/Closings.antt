@@ -1,22 +1,22 @@
 -- The end of a board: its words and slots, read one by one, and the last state.
-use Rattle.std.proofs.Common.{◌≡◌, ◌≢◌, ℕ, zero, suc, ◌+◌, ◌-◌, ◌<◌, ◌≤◌, ◌==◌, Bool, true, false, nat_lt, lt-ltb, ltb-true, List, [], ◌∷◌, ◌++◌, length, map, take, set, get_or, Option, Some, None, refl, sym, ap, ◌∙◌, subst, arith, add-one}
+use Rattle.std.proofs.Common.{◌≡◌, ◌≢◌, ℕ, zero, suc, ◌+◌, ◌<◌, Bool, true, false, nat_lt, lt-ltb, List, [], ◌∷◌, ◌++◌, length, map, take, set, get_or, Option, Some, refl, sym, ap, ◌∙◌, subst, arith, add-one}
 use Rattle.std.proofs.lemmas.List.{map_push}
 use mathlib.Core.Logic.{dite}
 use native.Mathlib.Decide.{ℕ_discrete}
-use mathlib.Core.Option.{some, none, some-injective, some-ne-none}
+use mathlib.Core.Option.{some, some-injective, some-ne-none}
 use lib.ListN.{get_elem?}
-use Rattle.atomic_table.specs.Table.{State, Final, Seen}
+use Rattle.atomic_table.specs.Table.{Final, Seen}
 use Rattle.packet_board.specs.declared.word.Word.{Word}
 use Rattle.packet_board.specs.declared.layout.Layout.{Layout}
 use Rattle.packet_board.specs.declared.buffer.Buffer.{Buffer}
 use Rattle.packet_board.specs.declared.view.View.{View}
-use Rattle.packet_board.specs.Words.{one_if, weigh, names, times, in_words, unpacked, buffers_of, cell_count, IsBuffer}
+use Rattle.packet_board.specs.Words.{one_if, weigh, times, in_words, unpacked, buffers_of, cell_count, IsBuffer}
 use Rattle.packet_board.specs.Hands.{flat, AreThere}
 use Rattle.packet_board.specs.Views.{in_hands}
 use Rattle.packet_board.specs.Laws.{Homes, Sound, Law}
 use Rattle.packet_board.specs.Rule.{Kept, cells_of, out_of}
 use Rattle.packet_board.specs.Seats.{Ended}
-use Rattle.packet_board.proofs.Counts.{below, at_below}
+use Rattle.packet_board.proofs.Counts.{below}
 use Rattle.packet_board.proofs.Brings.{one_buffer}
 use Rattle.packet_board.proofs.Turns.{only}
 use Rattle.packet_board.proofs.Openings.{length_mapped}

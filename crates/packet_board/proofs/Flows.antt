@@ -1,22 +1,18 @@
 -- What an exchange gives away and takes, in words, hands, slots and homes.
-use Rattle.std.proofs.Common.{◌≡◌, ◌≢◌, ℕ, zero, suc, ◌+◌, ◌<◌, ◌≤◌, ◌==◌, eqb, eq-eqb, ne_eqb, if◌then◌else◌, Bool, true, false, nat_lt, ltb-true, List, [], ◌∷◌, length, length-set, map, set, Option, Some, None, refl, sym, ap, ◌∙◌, subst, arith}
+use Rattle.std.proofs.Common.{◌≡◌, ◌≢◌, ℕ, ◌+◌, ◌<◌, ◌≤◌, ◌==◌, eq-eqb, ne_eqb, if◌then◌else◌, List, ◌∷◌, length, length-set, map, set, Option, Some, None, refl, sym, ap, ◌∙◌, subst, arith}
 use Rattle.std.proofs.lemmas.List.{map-set}
-use mathlib.Core.Option.{some, none, some-injective, some-ne-none}
-use mathlib.Core.Option as maybe
+use mathlib.Core.Option.{some, none}
 use mathlib.Core.Logic.{dite}
 use native.Mathlib.Decide.{ℕ_discrete}
 use lib.ListN.{get_elem?}
-use Rattle.atomic_table.specs.Table.{Act, keeps, takes, gives, chain, carried_after, homes_after, Valid}
+use Rattle.atomic_table.specs.Table.{Act, keeps, takes, carried_after, homes_after, Valid}
 use Rattle.atomic_table.proofs.Lists.{set_here, set_else}
-use Rattle.packet_board.specs.declared.word.Word.{Word}
-use Rattle.packet_board.specs.declared.layout.Layout.{Layout}
 use Rattle.packet_board.specs.declared.buffer.Buffer.{Buffer}
-use Rattle.packet_board.specs.declared.view.View.{View}
-use Rattle.packet_board.specs.Words.{one_if, weigh, names, times, in_words, buffers_of, IsBuffer}
-use Rattle.packet_board.specs.Hands.{gives_of, takes_of, lose, gain, placed, flat, Slots, Held, lookup, removed, drop_out, take_in, keys, updated, given_away, taken_in, CanGive, given_by, Found}
+use Rattle.packet_board.specs.Words.{one_if, names, times}
+use Rattle.packet_board.specs.Hands.{gives_of, takes_of, lose, gain, placed, flat, Slots, Held, lookup, drop_out, take_in, keys, updated, given_away, taken_in, CanGive, given_by}
 use Rattle.packet_board.specs.Laws.{Homes}
-use Rattle.packet_board.proofs.Counts.{one_same, one_other, same_one, one_at_most, names_self, from_one}
-use Rattle.packet_board.proofs.Slots.{counted_key, keys_removed, gone_held, Out}
+use Rattle.packet_board.proofs.Counts.{one_same, one_other, same_one, one_at_most}
+use Rattle.packet_board.proofs.Slots.{keys_removed, gone_held, Out}
 use Rattle.packet_board.proofs.Brings.{lifted}
 
 same_gives : (o n : ℕ) → o ≡ n → gives_of (Some o) (Some n) ≡ None

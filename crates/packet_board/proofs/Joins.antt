@@ -1,18 +1,16 @@
 -- A view that is cut in two, and two views that become one.
-use Rattle.std.proofs.Common.{◌≡◌, ◌≢◌, ℕ, zero, suc, ◌+◌, ◌<◌, ◌≤◌, Bool, true, false, true≢false, List, [], ◌∷◌, ◌++◌, length, map, set, Option, Some, None, refl, sym, ap, ◌∙◌, subst, arith, ⊎_elim}
-use mathlib.Core.Option.{some, none}
+use Rattle.std.proofs.Common.{◌≡◌, ◌≢◌, ℕ, ◌+◌, true, true≢false, List, [], ◌∷◌, ◌++◌, set, sym, ap, ◌∙◌, subst, arith, ⊎_elim}
+use mathlib.Core.Option.{some}
 use lib.ListN.{get_elem?}
-use Rattle.atomic_table.specs.Table.{State, Splits, Joins}
+use Rattle.atomic_table.specs.Table.{Splits, Joins}
 use Rattle.atomic_table.proofs.Lists.{at_set, at_snoc, set_else}
 use Rattle.packet_board.specs.declared.word.Word.{Word}
 use Rattle.packet_board.specs.declared.layout.Layout.{Layout}
-use Rattle.packet_board.specs.declared.buffer.Buffer.{Buffer}
 use Rattle.packet_board.specs.declared.view.View.{View}
-use Rattle.packet_board.specs.Words.{one_if, weigh, times, in_words}
-use Rattle.packet_board.specs.Hands.{flat}
+use Rattle.packet_board.specs.Words.{one_if, times, in_words}
 use Rattle.packet_board.specs.Views.{begun, settled, newcomer, joined, spent, in_hands}
-use Rattle.packet_board.specs.Laws.{Homes, Sound, Law, Seen, Parts, Merges}
-use Rattle.packet_board.specs.Rule.{Kept, Ready, Mine, cells_of, out_of}
+use Rattle.packet_board.specs.Laws.{Homes, Sound, Law, Parts, Merges}
+use Rattle.packet_board.specs.Rule.{Kept, cells_of, out_of}
 use Rattle.packet_board.proofs.Counts.{weigh_set, weigh_more}
 use Rattle.packet_board.proofs.Turns.{seen_of}
 

@@ -1,23 +1,22 @@
 -- A new board: its words, its buffers, and its rule.
-use Rattle.std.proofs.Common.{◌≡◌, ◌≢◌, ℕ, zero, suc, ◌+◌, ◌-◌, ◌<◌, ◌≤◌, ◌==◌, if◌then◌else◌, Bool, true, false, true≢false, nat_lt, lt-ltb, le-ltb, ltb-true, List, [], ◌∷◌, ◌++◌, length, length-append, map, take, Option, Some, None, refl, sym, ap, ◌∙◌, subst, arith, add-one, lt_of_not-le}
+use Rattle.std.proofs.Common.{◌≡◌, ◌≢◌, ℕ, zero, suc, ◌+◌, ◌<◌, ◌≤◌, if◌then◌else◌, true≢false, nat_lt, lt-ltb, le-ltb, ltb-true, List, [], ◌∷◌, ◌++◌, length, length-append, map, Option, Some, refl, sym, ap, ◌∙◌, subst, arith, add-one, lt_of_not-le}
 use Rattle.std.proofs.lemmas.List.{map_push}
-use mathlib.Core.Option.{some, none, some-injective, some-ne-none}
+use mathlib.Core.Option.{some, some-injective, some-ne-none}
 use mathlib.Core.Logic.{dite}
 use native.Mathlib.Decide.{ℕ_discrete, dec_le}
 use lib.ListN.{get_elem?}
-use Rattle.atomic_table.specs.Table.{State, opening}
+use Rattle.atomic_table.specs.Table.{opening}
 use Rattle.packet_board.specs.declared.word.Word.{Word}
 use Rattle.packet_board.specs.declared.layout.Layout.{Layout}
 use Rattle.packet_board.specs.declared.buffer.Buffer.{Buffer}
 use Rattle.packet_board.specs.declared.view.View.{View}
-use Rattle.packet_board.specs.Words.{one_if, weigh, names, times, in_words, full, empty, first_word, first_words, first_cells, Fits, packed, unpacked, buffers_of, others_of, cell_count, bytes_of, IsBuffer, IsNew, AreNew}
-use Rattle.packet_board.specs.Hands.{flat, AreThere}
-use Rattle.packet_board.specs.Views.{opening_view, in_hands}
-use Rattle.packet_board.specs.Laws.{Homes, Sound, Law, Stands, Opens}
-use Rattle.packet_board.specs.Rule.{Kept, cells_of, out_of}
-use Rattle.packet_board.proofs.Counts.{at_below, weigh_more, one_same, one_other, names_self, one_at_most, from_one}
+use Rattle.packet_board.specs.Words.{one_if, names, in_words, full, empty, first_word, first_words, first_cells, Fits, packed, unpacked, buffers_of, cell_count, bytes_of, IsNew, AreNew}
+use Rattle.packet_board.specs.Hands.{flat}
+use Rattle.packet_board.specs.Views.{opening_view}
+use Rattle.packet_board.specs.Laws.{Homes, Sound, Law, Opens}
+use Rattle.packet_board.specs.Rule.{Kept}
+use Rattle.packet_board.proofs.Counts.{at_below, weigh_more, one_same, one_other, from_one}
 use Rattle.packet_board.proofs.Packs.{unpacked_packed}
-use Rattle.packet_board.proofs.Brings.{no_buffer}
 
 module _ {A : Type 0} where
   pub at_push : (xs : List A) (a b : A) (j : ℕ) → get_elem? (xs ++ a ∷ []) j ≡ some b → j ≢ length xs → get_elem? xs j ≡ some b

@@ -1,18 +1,18 @@
 -- The slots that a seat has: looking one up, taking one from among them, and the act that gives one back from wherever it stands.
-use Rattle.std.proofs.Common.{◌≡◌, ◌≢◌, ℕ, zero, suc, ◌+◌, ◌<◌, ◌≤◌, ◌==◌, eqb, eq-eqb, ne_eqb, Bool, true, false, if◌then◌else◌, List, [], ◌∷◌, ◌++◌, length, map, set, set-set, Option, Some, None, refl, sym, ap, ◌∙◌, subst, arith}
+use Rattle.std.proofs.Common.{◌≡◌, ◌≢◌, ℕ, ◌≤◌, ◌==◌, eq-eqb, ne_eqb, if◌then◌else◌, List, [], ◌∷◌, ◌++◌, set, set-set, Option, refl, sym, ap, ◌∙◌, subst, arith}
 use Rattle.std.proofs.lemmas.List.{set_comm}
 use mathlib.Core.Option.{some, none, some-injective, some-ne-none}
 use mathlib.Core.Option as maybe
 use mathlib.Core.Logic.{dite}
 use native.Mathlib.Decide.{ℕ_discrete}
 use lib.ListN.{get_elem?}
-use Rattle.atomic_table.specs.Table.{Act, keeps, takes, gives, chain, carried_after, homes_after, Valid}
+use Rattle.atomic_table.specs.Table.{Act, takes, gives, chain, carried_after, homes_after, Valid}
 use Rattle.atomic_table.proofs.Lists.{set_here, set_else, set_again}
 use Rattle.packet_board.specs.declared.buffer.Buffer.{Buffer}
-use Rattle.packet_board.specs.Words.{one_if, weigh, names, times}
-use Rattle.packet_board.specs.Hands.{without, Slots, Held, lookup, removed, keys, updated}
+use Rattle.packet_board.specs.Words.{times}
+use Rattle.packet_board.specs.Hands.{without, Slots, lookup, removed, keys, updated}
 use Rattle.packet_board.specs.Laws.{Homes}
-use Rattle.packet_board.proofs.Counts.{below, one_same, one_other, same_one, one_at_most, chosen, times_without}
+use Rattle.packet_board.proofs.Counts.{below, one_same, chosen, times_without}
 
 pub counted_key : (c : Slots) (n : ℕ) (y : Option Buffer) → lookup c n ≡ some y → 1 ≤ times n (keys c)
 counted_key [] n y e = absurd (some-ne-none y (sym e))

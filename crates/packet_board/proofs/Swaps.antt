@@ -1,31 +1,30 @@
 -- An exchange of a cell's word keeps the board's rule, and tells its seat what it did.
-use Rattle.std.proofs.Common.{◌≡◌, ◌≢◌, ℕ, zero, suc, ◌+◌, ◌-◌, ◌<◌, ◌≤◌, ◌==◌, eqb, eq-eqb, ne_eqb, if◌then◌else◌, Bool, true, false, true≢false, nat_lt, ltb-true, List, [], ◌∷◌, length, length-set, map, set, get_or, Option, Some, None, refl, sym, ap, ◌∙◌, subst, arith, ⊎_elim}
+use Rattle.std.proofs.Common.{◌≡◌, ◌≢◌, ℕ, ◌+◌, ◌-◌, ◌<◌, ◌≤◌, eqb, eq-eqb, ne_eqb, if◌then◌else◌, true, true≢false, nat_lt, ltb-true, List, length-set, map, set, get_or, Option, Some, None, refl, sym, ap, ◌∙◌, subst, arith, ⊎_elim}
 use mathlib.Core.Option.{some, none, some-injective, some-ne-none}
-use mathlib.Core.Option as maybe
 use mathlib.Core.Logic.{dite}
 use native.Mathlib.Decide.{ℕ_discrete}
 use prog.Atomic.{either}
 use lib.ListN.{get_elem?}
-use Rattle.atomic_table.specs.Table.{State, Me, Act, step, stepped, keeps, chain, carried_after, homes_after, Valid, Allows}
+use Rattle.atomic_table.specs.Table.{State, Act, step, stepped, keeps, chain, carried_after, homes_after, Valid, Allows}
 use Rattle.atomic_table.proofs.Lists.{at_set}
 use Rattle.atomic_table.proofs.Lists.{exchanged as two_ways}
 use Rattle.packet_board.specs.declared.word.Word.{Word}
 use Rattle.packet_board.specs.declared.layout.Layout.{Layout}
 use Rattle.packet_board.specs.declared.buffer.Buffer.{Buffer}
 use Rattle.packet_board.specs.declared.view.View.{View}
-use Rattle.packet_board.specs.Words.{one_if, weigh, names, times, in_words, unpacked, buffers_of, cell_count, IsBuffer}
-use Rattle.packet_board.specs.Hands.{gives_of, takes_of, lose, gain, placed, flat, Slots, lookup, removed, drop_out, take_in, keys, CanGive, given_by, Found}
+use Rattle.packet_board.specs.Words.{one_if, names, times, in_words, unpacked, buffers_of, cell_count, IsBuffer}
+use Rattle.packet_board.specs.Hands.{gives_of, takes_of, lose, gain, placed, flat, Slots, lookup, drop_out, take_in, keys, CanGive, given_by, Found}
 use Rattle.packet_board.specs.Views.{looked, exchanged, in_hands}
-use Rattle.packet_board.specs.Laws.{Homes, Sound, Law, Allowing, Stands, Seen, Looks, Meets, Exchanges, Learns, Picks}
-use Rattle.packet_board.specs.Rule.{Kept, Ready, Mine, cells_of, out_of, saw, Swapped, swapped}
+use Rattle.packet_board.specs.Laws.{Homes, Sound, Law, Allowing, Looks, Exchanges, Learns, Picks}
+use Rattle.packet_board.specs.Rule.{Kept, Ready, Mine, cells_of, out_of, Swapped, swapped}
 use Rattle.packet_board.specs.Seats.{Exchanged}
-use Rattle.packet_board.proofs.Counts.{below, weigh_set, weigh_at, one_at_most, names_self, names_at_most, names_is, from_one, times_lose, times_gain}
-use Rattle.packet_board.proofs.Slots.{counted_key, other_slot, no_key, gone_held, Out}
-use Rattle.packet_board.proofs.Brings.{outs, in_no_word, one_buffer, no_buffer, still_ready}
+use Rattle.packet_board.proofs.Counts.{weigh_set, weigh_at, one_at_most, names_self, names_at_most, names_is, from_one, times_lose, times_gain}
+use Rattle.packet_board.proofs.Slots.{counted_key, gone_held}
+use Rattle.packet_board.proofs.Brings.{outs, one_buffer, still_ready}
 use Rattle.packet_board.proofs.Cells.{cell_there, cells_set, out_kept}
 use Rattle.packet_board.proofs.Packs.{unpacked_apart}
 use Rattle.packet_board.proofs.Turns.{seen_of, looks_again}
-use Rattle.packet_board.proofs.Flows.{flows, apart, none_not_some, same_number, takes_from, length_placed, placed_here, placed_else, map_placed, keys_after, held_after, Gives, giving, Takes, taking}
+use Rattle.packet_board.proofs.Flows.{flows, apart, none_not_some, same_number, takes_from, length_placed, placed_here, placed_else, map_placed, keys_after, held_after, giving, taking}
 
 taken_room : (k : Layout) (t : Option ℕ) (found : Option Buffer) → Found k t found → (n : ℕ) → 1 ≤ names n t → n < buffers_of k
 taken_room k None found sort n h = absurd (omega arith)

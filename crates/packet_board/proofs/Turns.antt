@@ -1,5 +1,5 @@
 -- Steps after which one view is another, and the number of seats out may be: a load, the number of seats out, and the beginning and end of a split and a join.
-use Rattle.std.proofs.Common.{◌≡◌, ◌≢◌, ℕ, zero, suc, ◌+◌, ◌-◌, ◌%◌, ◌<◌, ◌≤◌, ◌==◌, Bool, true, false, true≢false, eqb-true, List, [], ◌∷◌, ◌++◌, length, length-set, map, set, get_or, Option, Some, None, refl, sym, ap, ◌∙◌, subst, arith, mod-eq_of_lt, ⊎_elim}
+use Rattle.std.proofs.Common.{◌≡◌, ◌≢◌, ℕ, ◌+◌, ◌-◌, ◌%◌, ◌<◌, ◌≤◌, Bool, true, false, true≢false, eqb-true, List, length-set, map, set, get_or, Option, refl, sym, ap, ◌∙◌, subst, arith, mod-eq_of_lt, ⊎_elim}
 use native.Mathlib.Nat.{add-mod_right}
 use Rattle.std.proofs.lemmas.List.{set-get_or}
 use mathlib.Core.Option.{some, none}
@@ -10,10 +10,10 @@ use Rattle.packet_board.specs.declared.word.Word.{Word}
 use Rattle.packet_board.specs.declared.layout.Layout.{Layout}
 use Rattle.packet_board.specs.declared.buffer.Buffer.{Buffer}
 use Rattle.packet_board.specs.declared.view.View.{View}
-use Rattle.packet_board.specs.Words.{one_if, weigh, times, in_words, unpacked, cell_count}
+use Rattle.packet_board.specs.Words.{one_if, times, in_words, unpacked, cell_count}
 use Rattle.packet_board.specs.Hands.{flat}
-use Rattle.packet_board.specs.Views.{looked, begun, settled, joined, landed, told_out, in_hands}
-use Rattle.packet_board.specs.Laws.{Homes, Sound, Law, Stands, Seen, Looks, Counts, Begins, Ends, Bounds, Sees, WasOut}
+use Rattle.packet_board.specs.Views.{looked, begun, joined, landed, told_out, in_hands}
+use Rattle.packet_board.specs.Laws.{Homes, Sound, Law, Seen, Looks, Counts, Begins, Ends, Bounds, Sees}
 use Rattle.packet_board.specs.Rule.{Kept, Ready, Mine, cells_of, out_of, saw, counted, began, ended}
 use Rattle.packet_board.proofs.Counts.{weigh_set, weigh_at, weigh_two, weigh_beside}
 use Rattle.packet_board.proofs.Cells.{cell_there, cells_kept, out_set, out_is}

@@ -1,14 +1,14 @@
 -- The law that asks nothing of the words, and that each step keeps it.
-use Rattle.std.specs.Prelude.{◌≡◌, ◌≢◌, ℕ, ◌<◌, ◌≤◌, Bool, true, false, List, [], ◌∷◌, ◌++◌, map, slice_set, Option, ◌⊎◌, refl}
+use Rattle.std.specs.Prelude.{◌≡◌, ◌≢◌, ℕ, ◌≤◌, Bool, true, false, List, [], ◌∷◌, ◌++◌, slice_set, Option, ◌⊎◌, refl}
 use Rattle.std.proofs.Common.{sym, ap, ◌∙◌, subst, inl, inr, ⊎_elim, true≢false, zero, suc, le_refl}
-use mathlib.Core.Option.{some, some-injective, some-ne-none}
+use mathlib.Core.Option.{some, some-ne-none}
 use lib.ListN.{get_elem?}
 use Rattle.atomic_table.proofs.Lists.{at_set, at_snoc}
 use Rattle.packet_board.specs.declared.word.Word.{Word}
 use Rattle.packet_board.specs.declared.layout.Layout.{Layout}
 use Rattle.packet_board.specs.declared.buffer.Buffer.{Buffer}
 use Rattle.packet_board.specs.declared.view.View.{View}
-use Rattle.packet_board.specs.Views.{begun, settled, newcomer, joined, spent, landed, opening_view}
+use Rattle.packet_board.specs.Views.{begun, newcomer, joined, spent, opening_view}
 use Rattle.packet_board.specs.Laws.{Opens, Looks, Exchanges, Counts, Begins, Parts, Merges, Ends, Bounds}
 
 abbrev pub Seats : Type 0

@@ -1,7 +1,6 @@
 -- The board as the rule of a table: word 0 is the number of seats out, and the word behind it is the first cell's. And what each step of the table tells its seat.
-use Rattle.std.specs.Prelude.{◌≡◌, ◌≢◌, ℕ, ◌+◌, ◌-◌, ◌<◌, ◌≤◌, ◌^◌, true, List, [], ◌∷◌, map, length, Option, Some, None}
-use mathlib.Core.Option.{none, some}
-use mathlib.Core.Option as maybe
+use Rattle.std.specs.Prelude.{◌≡◌, ◌≢◌, ℕ, ◌-◌, ◌<◌, ◌≤◌, true, List, [], ◌∷◌, map, length, Option, Some}
+use mathlib.Core.Option.{some}
 use Rattle.atomic_table.specs.Table.{State, Me, Step}
 use Rattle.packet_board.specs.declared.word.Word.{Word}
 use Rattle.packet_board.specs.declared.layout.Layout.{Layout}

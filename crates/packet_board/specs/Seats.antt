@@ -1,7 +1,6 @@
 -- What contracts say of a board and of its seats.
-use Rattle.std.specs.Prelude.{◌≡◌, ◌≢◌, ℕ, ◌+◌, ◌<◌, nat_lt, false, List, [], ◌∷◌, map, length, Option, Some, None}
-use mathlib.Core.Option.{none, some}
-use mathlib.Core.Option as maybe
+use Rattle.std.specs.Prelude.{◌≡◌, ◌≢◌, ℕ, nat_lt, false, List, map, length, Option, Some}
+use mathlib.Core.Option.{some}
 use lib.ListN.{get_elem?}
 use Rattle.packet_board.specs.declared.word.Word.{Word}
 use Rattle.packet_board.specs.declared.layout.Layout.{Layout}

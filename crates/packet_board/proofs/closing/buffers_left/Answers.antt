@@ -1,9 +1,9 @@
-use Rattle.std.proofs.Common.{arith, refl, sym, ap, subst, ◌∙◌, ◌<◌, ◌≡◌, ◌≢◌, ◌+◌, ℕ, true, false, ◌++◌, ◌∷◌, [], Some, map, set, get_or, List, Bool}
+use Rattle.std.proofs.Common.{arith, sym, ap, subst, ◌∙◌, ◌<◌, ◌≡◌, ℕ, false, Some, map, set, get_or, List, Bool}
 use mathlib.Core.Option.{some}
 use mathlib.Core.Logic.{dite}
 use native.Mathlib.Decide.{ℕ_discrete}
 use lib.ListN.{get_elem?}
-use Rattle.std.specs.Slots.{slots_items, slots_filled, slots_len}
+use Rattle.std.specs.Slots.{slots_items, slots_filled}
 use Rattle.packet_board.proofs.Closings.{more_buffers, filled_other, filled_here}
 use Rattle.packet_board.proofs.closing.buffers_left.Goals as goal
 

@@ -1,7 +1,6 @@
-use Rattle.std.proofs.Common.{rules, arith, refl, sym, ap, subst, ◌∙◌, ◌<◌, ◌+◌, ℕ, ◌++◌, ◌∷◌, []}
-use Rattle.std.specs.Slots.{slots_items, slots_len, slots_counts}
-use Rattle.packet_board.specs.Rule.{cells_of}
-use Rattle.packet_board.proofs.Closings.{more_cells, all_cells}
+use Rattle.std.proofs.Common.{arith, ◌∙◌, ℕ, ◌++◌, ◌∷◌, []}
+use Rattle.std.specs.Slots.{slots_items}
+use Rattle.packet_board.proofs.Closings.{more_cells}
 use Rattle.packet_board.proofs.closing.cells_left.Goals as goal
 
 pub loop-cell-preserved : goal.loop-cell-preserved

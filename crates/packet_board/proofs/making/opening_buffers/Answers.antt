@@ -1,6 +1,5 @@
-use Rattle.std.proofs.Common.{arith, sym, subst, ◌∙◌, ◌+◌, ℕ, length, List, Option}
-use Rattle.packet_board.specs.declared.buffer.Buffer.{Buffer}
-use Rattle.packet_board.specs.Words.{IsNew, AreNew}
+use Rattle.std.proofs.Common.{arith, sym, subst, ◌∙◌, ◌+◌, ℕ}
+use Rattle.packet_board.specs.Words.{AreNew}
 use Rattle.packet_board.proofs.Openings.{more_new, new_buffer}
 use Rattle.packet_board.proofs.making.opening_buffers.Goals as goal
 

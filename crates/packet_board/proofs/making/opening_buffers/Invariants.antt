@@ -1,4 +1,4 @@
-use Rattle.std.proofs.Common.{◌≡◌, ◌+◌, vec_len, vec_capacity}
+use Rattle.std.proofs.Common.{◌≡◌, vec_len, vec_capacity}
 use Rattle.packet_board.specs.Words.{AreNew}
 use Rattle.packet_board.proofs.making.opening_buffers.Given as goal
 

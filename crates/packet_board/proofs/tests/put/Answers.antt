@@ -1,4 +1,4 @@
-use Rattle.std.proofs.Common.{refl, sym, ap, ◌∙◌, Some, None}
+use Rattle.std.proofs.Common.{refl, ap, ◌∙◌, Some}
 use mathlib.Core.Option.{some, none}
 use Rattle.packet_board.specs.Hands.{updated, nothing}
 use Rattle.packet_board.proofs.Held.{updated_here, updated_back, if_ok, if_err}

@@ -1,6 +1,6 @@
-use Rattle.std.proofs.Common.{refl, sym, ap, ◌∙◌, Some, None, true}
-use mathlib.Core.Option.{some, none}
-use Rattle.packet_board.specs.Hands.{updated, nothing}
+use Rattle.std.proofs.Common.{ap, ◌∙◌, Some, true}
+use mathlib.Core.Option.{some}
+use Rattle.packet_board.specs.Hands.{nothing}
 use Rattle.packet_board.specs.Seats.{held}
 use Rattle.packet_board.proofs.Held.{updated_here, out_one, wrote_one}
 use Rattle.packet_board.proofs.tests.sign.Goals as goal

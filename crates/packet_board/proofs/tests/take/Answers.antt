@@ -1,6 +1,5 @@
-use Rattle.std.proofs.Common.{refl, sym, ap, ◌∙◌, Some, None}
+use Rattle.std.proofs.Common.{refl, ◌∙◌}
 use mathlib.Core.Option.{some}
-use Rattle.std.specs.Prelude.{⊤}
 use Rattle.packet_board.specs.Hands.{updated}
 use Rattle.packet_board.proofs.Held.{if_ok}
 use Rattle.packet_board.proofs.tests.take.Goals as goal

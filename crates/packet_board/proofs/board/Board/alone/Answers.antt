@@ -1,4 +1,4 @@
-use Rattle.std.proofs.Common.{arith, refl, sym, ap, subst, ◌∙◌, ◌≡◌, ◌+◌, ◌-◌, ◌<◌, ℕ}
+use Rattle.std.proofs.Common.{arith, refl, sym, subst}
 use Rattle.packet_board.specs.Rule.{Ready}
 use Rattle.packet_board.specs.Views.{told_out}
 use Rattle.packet_board.proofs.Brings.{still_ready}

@@ -1,13 +1,11 @@
-use Rattle.std.proofs.Common.{arith, refl, sym, ap, subst, ◌∙◌, ◌≡◌, ◌+◌, ◌<◌, ℕ, List}
+use Rattle.std.proofs.Common.{sym, ap, subst, ◌∙◌, List}
 use Rattle.packet_board.specs.declared.word.Word.{Word}
 use Rattle.packet_board.specs.declared.layout.Layout.{Layout}
 use Rattle.packet_board.specs.declared.buffer.Buffer.{Buffer}
 use Rattle.std.specs.Slots.{slots_items}
-use Rattle.packet_board.specs.Words.{times}
-use Rattle.packet_board.specs.Hands.{keys}
 use Rattle.packet_board.specs.Seats.{Ended}
 use Rattle.packet_board.proofs.Slots.{no_slots, no_hands}
-use Rattle.packet_board.proofs.Closings.{Last, lasts}
+use Rattle.packet_board.proofs.Closings.{lasts}
 use Rattle.packet_board.proofs.board.Board.emptied.Goals as goal
 
 pub buffers_left-buffers-requires-clause-buffers : goal.buffers_left-buffers-requires-clause-buffers

@@ -1,7 +1,7 @@
-use Rattle.std.proofs.Common.{arith, refl, sym, ap, subst, ◌∙◌, ◌≡◌, ◌≢◌, ◌+◌, ◌-◌, ◌<◌, ℕ}
+use Rattle.std.proofs.Common.{arith, sym, ap, subst, ◌∙◌, ◌≡◌, ◌+◌, ◌-◌, ◌<◌, ℕ}
 use Rattle.packet_board.specs.declared.word.Word.{Word}
 use Rattle.packet_board.specs.declared.layout.Layout.{Layout}
-use Rattle.packet_board.specs.Words.{cell_count, unpacked, packed}
+use Rattle.packet_board.specs.Words.{cell_count, unpacked}
 use Rattle.packet_board.specs.Hands.{gives_of, CanGive, given_by, lookup}
 use Rattle.packet_board.specs.Laws.{Learns, Picks}
 use Rattle.packet_board.specs.Rule.{Swapped}

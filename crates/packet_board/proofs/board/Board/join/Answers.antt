@@ -1,4 +1,4 @@
-use Rattle.std.proofs.Common.{arith, refl, sym, ap, subst, ◌∙◌, ◌≡◌, ◌+◌, ◌-◌, ◌<◌, ℕ}
+use Rattle.std.proofs.Common.{arith, refl, sym, ap, subst, ◌∙◌}
 use Rattle.packet_board.specs.Views.{joined, landed}
 use Rattle.packet_board.specs.Rule.{Ready}
 use Rattle.packet_board.proofs.Slots.{no_slots, no_hands}

@@ -1,4 +1,4 @@
-use Rattle.std.proofs.Common.{arith, refl, sym, ap, subst, ◌∙◌, ◌≡◌, ◌+◌, ◌-◌, ◌<◌, ℕ, zero-lt-suc}
+use Rattle.std.proofs.Common.{arith, refl, sym, subst, ◌≡◌, ◌+◌, ◌-◌, ◌<◌, ℕ}
 use Rattle.packet_board.specs.Words.{cell_count, unpacked}
 use Rattle.packet_board.specs.Laws.{Sees}
 use Rattle.packet_board.specs.Rule.{Ready}

@@ -1,5 +1,4 @@
-use Rattle.std.proofs.Common.{arith, refl, sym, ap, subst, ◌∙◌, ◌≡◌, ◌+◌, ◌<◌, ◌≤◌, ℕ, length}
-use Rattle.packet_board.specs.Words.{buffers_of, cell_count, first_cells, packed}
+use Rattle.std.proofs.Common.{◌∙◌}
 use Rattle.packet_board.proofs.Openings.{opens_board, opening_length}
 use Rattle.packet_board.proofs.board.Board.make.Goals as goal
 

@@ -1,4 +1,4 @@
-use Rattle.std.proofs.Common.{arith, refl, sym, ap, subst, ◌∙◌, ◌≡◌, ◌+◌, ◌-◌, ◌<◌, ℕ}
+use Rattle.std.proofs.Common.{arith, refl, sym, ap, subst, ◌∙◌}
 use Rattle.packet_board.specs.Views.{begun, settled}
 use Rattle.packet_board.specs.Rule.{Ready}
 use Rattle.packet_board.proofs.Brings.{still_ready}

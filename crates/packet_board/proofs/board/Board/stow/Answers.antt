@@ -1,5 +1,4 @@
 use Rattle.std.proofs.Common.{sym, ap, subst, ◌∙◌, Some}
-use mathlib.Core.Option.{some}
 use Rattle.packet_board.specs.Words.{IsBuffer}
 use Rattle.packet_board.specs.Hands.{lookup}
 use Rattle.packet_board.specs.Rule.{Ready}

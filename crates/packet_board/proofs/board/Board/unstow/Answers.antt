@@ -1,5 +1,5 @@
-use Rattle.std.proofs.Common.{refl, sym, ap, subst, ◌∙◌, ◌<◌, ◌≤◌, None, Some, arith}
-use mathlib.Core.Option.{some, some-injective}
+use Rattle.std.proofs.Common.{sym, ap, subst, ◌∙◌, ◌<◌, None, arith}
+use mathlib.Core.Option.{some}
 use Rattle.packet_board.specs.Words.{buffers_of, IsBuffer}
 use Rattle.packet_board.specs.Hands.{lookup}
 use Rattle.packet_board.specs.Rule.{Ready}
