@@ -111,7 +111,6 @@ probe c = caller_header c kind.Probe true true c.final
 abbrev pub bind : Caller → Fields
 bind c = record (caller_header c kind.Bind false true 0) { export = no_export; procedure = 0 }
 
-
 -- The table: a row's new state, with its tries and ticks, and the row's act.
 abbrev pub row : Caller → State → ℕ → ℕ → Act → Step
 row c state tries ticks act = record { caller = record c { state = state; tries = tries; ticks = ticks }; act = act }
