@@ -1,6 +1,9 @@
 //! The caller's table, row by row: every state, with every packet and tick.
 
+ghost use Rattle.std.specs.Prelude.{◌≤◌};
+
 use crate::{Action, Caller};
+use fragments::LONG;
 use rpc_header::{Activity, CallId, CallNumber, Export, Header, Kind};
 
 const NUMBER: CallNumber = CallNumber { value: 65536 };
@@ -335,24 +338,26 @@ fn an_answer_starts_the_count_anew(rt: HostRuntime) {
     assert!(rt; fourth_tick_is(&mut caller, sent_again(At::Waiting)));
 }
 
+/// What a caller does first about a call whose arguments have `len` bytes, and then about a whole result.
+fn start(len: usize) -> (Action, Action)
+    requires { len ≤ LONG }
+{
+    let mut caller = Caller::idle(ACTIVITY, 9);
+    let act = caller.start_call(NUMBER, EXPORT, 4, len);
+    (act, caller.on_packet(&result(0, true)))
+}
+
 #[test]
 fn starts_send_the_first_piece(rt: HostRuntime) {
-    for len in [0, 1, 1440] {
-        let mut caller = caller_at(At::Idle);
-        let sent = Action::Send {
-            header: packet(Kind::Call, 0),
-            piece: Some(0),
-        };
-        assert!(rt; caller.start_call(NUMBER, EXPORT, 4, len) == sent);
-        assert!(rt; caller.on_packet(&result(0, true)) == REPLY);
-        assert!(rt; caller.is_idle());
-    }
-    for len in [1441, 92160] {
-        let mut caller = caller_at(At::Idle);
-        assert!(rt; caller.start_call(NUMBER, EXPORT, 4, len) == piece(0));
-        assert!(rt; caller.on_packet(&result(0, true)) == Action::Unused);
-    }
-    let mut caller = caller_at(At::Idle);
+    let sent = Action::Send {
+        header: packet(Kind::Call, 0),
+        piece: Some(0),
+    };
+    let short = (sent, REPLY);
+    assert!(rt; start(0) == short && start(1) == short && start(1440) == short);
+    let long = (piece(0), Action::Unused);
+    assert!(rt; start(1441) == long && start(92160) == long);
+    let mut caller = Caller::idle(ACTIVITY, 9);
     let sent = Action::Send {
         header: bind(),
         piece: Some(0),
@@ -362,7 +367,7 @@ fn starts_send_the_first_piece(rt: HostRuntime) {
 
 #[test]
 fn the_longest_call_has_64_pieces(rt: HostRuntime) {
-    let mut caller = caller_at(At::Idle);
+    let mut caller = Caller::idle(ACTIVITY, 9);
     caller.start_call(NUMBER, EXPORT, 4, 92160);
     for number in 0..62 {
         assert!(rt; caller.on_packet(&ack(number)) == piece(number + 1));
