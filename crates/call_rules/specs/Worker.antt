@@ -6,8 +6,14 @@ use Rattle.std.specs.Prelude.{ℕ, List, length, take, Option, Some, None, Bool,
 use Rattle.rpc_header.specs.declared.Kind.{Kind}
 use Rattle.rpc_header.specs.declared.Kind.TheVariants as kind
 use Rattle.call_rules.specs.Packet.{Call, Fields, Packet, piece_size}
-use Rattle.call_rules.specs.Entry.{Entry, Word, word_of, is_same_word, Judged, judge}
+use Rattle.call_rules.specs.Entry.{Entry, Word, word_of, is_same_word, judge}
 use Rattle.call_rules.specs.Entry as entry
+use Rattle.call_rules.specs.declared.entry.Judged.{Judged}
+use Rattle.call_rules.specs.declared.entry.Judged.TheVariants as judged
+use Rattle.call_rules.specs.declared.worker.Did.{Did}
+use Rattle.call_rules.specs.declared.worker.Did.TheVariants as did
+use Rattle.call_rules.specs.declared.worker.Unfit.{Unfit}
+use Rattle.call_rules.specs.declared.worker.Unfit.TheVariants as unfit
 
 -- what a body answers
 pub record Answer : Type 0 where
@@ -20,25 +26,6 @@ pub data Worker : Type 0 where
   Claimed : (carrier : Packet) → (seen : Word) → Worker
   Admitted : (carrier : Packet) → Worker
   Ran : (carrier : Packet) → Answer → Worker
-
--- why a worker drops its packet
-pub data Unfit : Type 0 where
-  Older : Unfit
-  Same : Unfit
-  Busy : Unfit
-  Unknown : Unfit
-  Skipped : Unfit
-  Lost : Unfit
-  Full : Unfit
-  NoBuffer : Unfit
-  BadName : Unfit
-
-pub data Did : Type 0 where
-  Claims : Did
-  Admits : Did
-  Runs : Did
-  Replies : Did
-  Drops : Unfit → Did
 
 -- one run of a body
 pub record Run : Type 0 where
@@ -57,18 +44,18 @@ pub record Step : Type 0 where
 
 -- the packet is given back, and nothing else changes
 abbrev pub drops : Entry → Unfit → Step
-drops e why = record { worker = Resting; entry = e; did = Drops why; sends = None }
+drops e why = record { worker = Resting; entry = e; did = did.Drops why; sends = None }
 
 -- a worker that is idle, with a packet, by the packet's judgement. What acknowledges, gathers and sends
 -- again comes with the packets that ask for it; until then such a packet is dropped as the same call's
 abbrev pub on_judged : Judged → Packet → Entry → Step
-on_judged entry.Older p e = drops e Older
-on_judged entry.Same p e = drops e Same
-on_judged entry.Busy p e = drops e Busy
-on_judged entry.Unknown p e = drops e Unknown
-on_judged entry.Skipped p e = drops e Skipped
-on_judged entry.Admit p e = record { worker = Claimed p (word_of e); entry = e; did = Claims; sends = None }
-on_judged _ p e = drops e Same
+on_judged judged.Older p e = drops e unfit.Older
+on_judged judged.Same p e = drops e unfit.Same
+on_judged judged.Busy p e = drops e unfit.Busy
+on_judged judged.Unknown p e = drops e unfit.Unknown
+on_judged judged.Skipped p e = drops e unfit.Skipped
+on_judged judged.Admit p e = record { worker = Claimed p (word_of e); entry = e; did = did.Claims; sends = None }
+on_judged _ p e = drops e unfit.Same
 
 abbrev pub on_idle : Packet → Entry → Step
 on_idle p e = on_judged (judge (word_of e) p.header) p e
@@ -77,12 +64,12 @@ on_idle p e = on_judged (judge (word_of e) p.header) p e
 abbrev pub on_claimed : Packet → Word → Entry → Step
 on_claimed p seen e =
     if is_same_word (word_of e) seen
-    then record { worker = Admitted p; entry = entry.Running p.header.call.number; did = Admits; sends = None }
-    else drops e Lost
+    then record { worker = Admitted p; entry = entry.Running p.header.call.number; did = did.Admits; sends = None }
+    else drops e unfit.Lost
 
 -- the body runs
 abbrev pub on_admitted : Packet → Answer → Entry → Step
-on_admitted p answer e = record { worker = Ran p answer; entry = e; did = Runs; sends = None }
+on_admitted p answer e = record { worker = Ran p answer; entry = e; did = did.Runs; sends = None }
 
 -- a server's answer to a packet: to where it came from, with the call, hint, export and procedure of it
 abbrev pub answer_header : Packet → Kind → Bool → ℕ → Fields
@@ -115,7 +102,7 @@ on_ran p answer e =
     record {
       worker = Resting;
       entry = entry.Done p.header.call.number answer.signal answer.reply;
-      did = Replies;
+      did = did.Replies;
       sends = Some (reply_packet p answer);
     }
 

@@ -3,6 +3,7 @@
 #![tactic(auto)]
 
 mod calls;
+mod laws;
 mod memory_sink;
 mod memory_source;
 mod read_failed;
@@ -14,6 +15,7 @@ mod station;
 mod write_failed;
 mod writing;
 
+pub use laws::told_laws;
 pub use memory_sink::MemorySink;
 pub use memory_source::MemorySource;
 pub use read_failed::ReadFailed;

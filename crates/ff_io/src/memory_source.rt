@@ -1,5 +1,5 @@
 // A source over bytes in memory.
-ghost use Rattle.std.specs.Prelude.{◌≡◌, ◌↔◌, ◌≤◌, ◌<◌, Some, [], length, take, drop, min, is_err, IsErr, IfOk, IfSome, OnErr};
+ghost use Rattle.std.specs.Prelude.{◌≡◌, ◌↔◌, ◌≤◌, ◌<◌, Some, [], length, take, drop, min, is_err, IsErr, IfOk, IfSome, OnOk, OnErr};
 ghost use Rattle.ff_io.specs.CallLog.{NextFails, no_calls, called};
 ghost use Rattle.ff_io.specs.Count.{Rose};
 ghost use Rattle.ff_io.specs.MemorySource.{MemorySourceState};
@@ -70,6 +70,7 @@ impl Source for MemorySource {
         ensures end { IfOk result (λ n. 0 < length into.new → (n ≡ 0) ↔ (self.old.left ≡ [])) }
         ensures untouched { OnErr result (Some self.new.left ≡ Some self.old.left) }
         ensures failed { OnErr result (Rose self.old.calls.faults self.new.calls.faults) }
+        ensures still { OnOk result (self.new.calls.faults ≡ self.old.calls.faults) }
         ensures count { self.old.calls.faults ≤ self.new.calls.faults }
     {
         if self.calls.next_fails() {

@@ -55,7 +55,10 @@ pub fn read_all<S: Source>(alloc: Global, source: &mut S, limit: usize) -> Resul
     ensures read { (bytes : List ℕ) × Gave bytes (S.left source.old) (S.left source.new)
         × (length bytes ≤ limit + 1) × (IsErrOf result ReadAll.TooLong ↔ (length bytes ≡ limit + 1)) }
 
+    // `Failed` comes exactly where the count rose: no read is tried again after one that failed.
     ensures failed { IsErrOf result ReadAll.Failed → Rose (S.faults source.old) (S.faults source.new) }
+    ensures counted { S.faults source.old < S.faults source.new → IsErrOf result ReadAll.Failed }
+    ensures still { (IsErrOf result ReadAll.Failed → ⊥) → S.faults source.new ≡ S.faults source.old }
     ensures count { S.faults source.old ≤ S.faults source.new }
 {
     let mut bytes = Vec::new(alloc);

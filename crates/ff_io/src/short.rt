@@ -1,5 +1,5 @@
 // Short reads and writes.
-ghost use Rattle.std.specs.Prelude.{◌≡◌, ◌↔◌, ◌≤◌, ◌<◌, [], length, take, IfOk, IfSome, OnErr};
+ghost use Rattle.std.specs.Prelude.{◌≡◌, ◌↔◌, ◌≤◌, ◌<◌, [], length, take, IfOk, IfSome, OnOk, OnErr};
 ghost use Rattle.ff_io.specs.Count.{Rose};
 ghost use Rattle.ff_io.specs.Told.{Appended, Gave};
 
@@ -31,6 +31,7 @@ impl<S: Source> Source for Short<S> {
             IfSome (S.left self.old.inner) (λ bytes. (n ≡ 0) ↔ (bytes ≡ []))) }
         ensures untouched { OnErr result (S.left self.new.inner ≡ S.left self.old.inner) }
         ensures failed { OnErr result (Rose (S.faults self.old.inner) (S.faults self.new.inner)) }
+        ensures still { OnOk result (S.faults self.new.inner ≡ S.faults self.old.inner) }
         ensures count { S.faults self.old.inner ≤ S.faults self.new.inner }
     {
         let most = self.most.min(into.len());
@@ -53,6 +54,7 @@ impl<K: Sink> Sink for Short<K> {
         ensures appended { IfOk result (λ n. Appended (take n bytes.now) (K.written self.old.inner) (K.written self.new.inner)) }
         ensures untouched { OnErr result (Appended [] (K.written self.old.inner) (K.written self.new.inner)) }
         ensures failed { OnErr result (Rose (K.faults self.old.inner) (K.faults self.new.inner)) }
+        ensures still { OnOk result (K.faults self.new.inner ≡ K.faults self.old.inner) }
         ensures count { K.faults self.old.inner ≤ K.faults self.new.inner }
     {
         let most = self.most.min(bytes.len());

@@ -1,5 +1,5 @@
 // Where bytes come from.
-ghost use Rattle.std.specs.Prelude.{◌≡◌, ◌↔◌, ◌≤◌, ◌<◌, ℕ, List, Option, [], length, take, IfOk, OnErr, IfSome};
+ghost use Rattle.std.specs.Prelude.{◌≡◌, ◌↔◌, ◌≤◌, ◌<◌, ℕ, List, Option, [], length, take, IfOk, OnOk, OnErr, IfSome};
 ghost use Rattle.ff_io.specs.Count.{Rose};
 ghost use Rattle.ff_io.specs.Told.{Gave};
 
@@ -23,8 +23,9 @@ pub trait Source {
         ensures end { IfOk result (λ n. 0 < length into.new →
             IfSome (left self.old) (λ bytes. (n ≡ 0) ↔ (bytes ≡ []))) }
 
-        // A failed call takes nothing, and is counted.
+        // A failed call takes nothing, and it alone is counted.
         ensures untouched { OnErr result (left self.new ≡ left self.old) }
         ensures failed { OnErr result (Rose (faults self.old) (faults self.new)) }
+        ensures still { OnOk result (faults self.new ≡ faults self.old) }
         ensures count { faults self.old ≤ faults self.new };
 }

@@ -9,9 +9,9 @@ fn source_of(alloc: Global, bytes: &[u8], fail: &[u64]) -> Result<MemorySource, 
     Ok(MemorySource::new(bytes, fail))
 }
 
-fn sink_of(alloc: Global, fail: &[u64]) -> Result<MemorySink, AllocError> {
+fn sink_of(alloc: Global, fail: &[u64], room: usize) -> Result<MemorySink, AllocError> {
     let fail = Vec::from_slice(alloc, fail)?;
-    Ok(MemorySink::new(fail, Vec::new(alloc)))
+    Ok(MemorySink::new(fail, Vec::with_capacity(alloc, room)?))
 }
 
 #[test]
@@ -25,7 +25,7 @@ fn the_listed_calls_fail(rt: HostRuntime) -> Result<(), Fail> {
     assert_eq!(rt; source.left(), b"cde".as_slice());
     assert_eq!(rt; source.faults(), 2);
 
-    let mut sink = sink_of(rt.alloc(), &[2])?;
+    let mut sink = sink_of(rt.alloc(), &[2], 5)?;
     assert_eq!(rt; sink.write(b"ab"), Ok(2));
     assert_eq!(rt; sink.write(b"cd"), Err(WriteFailed));
     assert_eq!(rt; sink.write(b"ef"), Ok(2));
@@ -85,7 +85,7 @@ fn a_read_that_fails_in_mid_stream_is_told(rt: HostRuntime) -> Result<(), Fail> 
 
 #[test]
 fn short_writes_are_written_on(rt: HostRuntime) -> Result<(), Fail> {
-    let inner = sink_of(rt.alloc(), &[])?;
+    let inner = sink_of(rt.alloc(), &[], 5)?;
     let mut sink = Short { inner, most: 2 };
     write_all(&mut sink, b"hello")?;
     assert_eq!(rt; sink.inner.written(), b"hello".as_slice());
@@ -94,7 +94,7 @@ fn short_writes_are_written_on(rt: HostRuntime) -> Result<(), Fail> {
 
 #[test]
 fn a_write_that_fails_in_mid_stream_leaves_a_prefix(rt: HostRuntime) -> Result<(), Fail> {
-    let inner = sink_of(rt.alloc(), &[2])?;
+    let inner = sink_of(rt.alloc(), &[2], 5)?;
     let mut sink = Short { inner, most: 2 };
     assert_eq!(rt; write_all(&mut sink, b"hello"), Err(WriteFailed));
     assert_eq!(rt; sink.inner.written(), b"he".as_slice());
@@ -104,10 +104,24 @@ fn a_write_that_fails_in_mid_stream_leaves_a_prefix(rt: HostRuntime) -> Result<(
 
 #[test]
 fn what_the_room_holds_counts_as_written(rt: HostRuntime) -> Result<(), Fail> {
-    let room = Vec::from_slice(rt.alloc(), b"old ")?;
+    let mut room = Vec::with_capacity(rt.alloc(), 7)?;
+    room.extend_from_slice(b"old ")?;
     let mut sink = MemorySink::new(Vec::new(rt.alloc()), room);
     write_all(&mut sink, b"new")?;
     assert_eq!(rt; sink.written(), b"old new".as_slice());
+    Ok(())
+}
+
+#[test]
+fn a_sink_takes_no_more_than_its_room(rt: HostRuntime) -> Result<(), Fail> {
+    let mut sink = sink_of(rt.alloc(), &[], 5)?;
+    assert_eq!(rt; sink.write(b"abc"), Ok(3));
+    assert_eq!(rt; sink.write(b"def"), Err(WriteFailed));
+    assert_eq!(rt; sink.write(b"de"), Ok(2));
+    assert_eq!(rt; sink.written(), b"abcde".as_slice());
+    assert_eq!(rt; sink.write(b""), Ok(0));
+    assert_eq!(rt; sink.write(b"f"), Err(WriteFailed));
+    assert_eq!(rt; sink.faults(), 2);
     Ok(())
 }
 

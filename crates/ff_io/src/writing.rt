@@ -1,5 +1,5 @@
 // Writing all of a slice.
-ghost use Rattle.std.specs.Prelude.{◌≤◌, ◌<◌, ℕ, length, take, OnOk, OnErr};
+ghost use Rattle.std.specs.Prelude.{◌≡◌, ◌≤◌, ◌<◌, ℕ, length, take, OnOk, OnErr};
 ghost use Rattle.ff_io.specs.Count.{Rose};
 ghost use Rattle.ff_io.specs.Told.{Appended};
 
@@ -10,7 +10,10 @@ pub fn write_all<K: Sink>(sink: &mut K, bytes: &[u8]) -> Result<(), WriteFailed>
     ensures all { OnOk result (Appended bytes.now (K.written sink.old) (K.written sink.new)) }
     ensures part { OnErr result ((n : ℕ) × (n < length bytes.now)
         × Appended (take n bytes.now) (K.written sink.old) (K.written sink.new)) }
+
+    // It fails exactly where the count rose: no write is tried again after one that failed.
     ensures failed { OnErr result (Rose (K.faults sink.old) (K.faults sink.new)) }
+    ensures still { OnOk result (K.faults sink.new ≡ K.faults sink.old) }
     ensures count { K.faults sink.old ≤ K.faults sink.new }
 {
     let mut at = 0;

@@ -13,7 +13,8 @@ use Rattle.rpc_header.specs.Spelling.{HasSpelling, FitsFields, spelling}
 use Rattle.rpc_header.specs.Reading.{Accepted, read_of}
 use Rattle.call_rules.specs.Packet.{Fields, Packet, fields_of}
 use Rattle.call_rules.specs.Worker.{Run}
-use Rattle.replay_model.specs.Record.{Start, WrongKind, Foreign}
+use Rattle.replay_model.specs.declared.discard.Discard.TheVariants as why
+use Rattle.replay_model.specs.Record.{Start}
 use Rattle.replay_model.specs.Arrival.{header_of, datagram_of, frame_of, Arrival, Comes, Dropped, server_takes_kind, client_takes_kind, takes_kind, calling_machine, arrival_of, arrival_of_read, arrival_of_frame, arrives}
 
 -- the laws of frames and headers, each by the contract that states it
@@ -81,8 +82,8 @@ sent_can_arrive {starts} {journal} {p} h = go (eqb p.to 1) refl
 taken : (p : Packet) → CanArrive p → arrival_of p.to p ≡ Comes p
 taken p h =
     let own : Bool = eqb p.header.call.activity.machine (calling_machine p.to p.from) in
-    ap (λ b. cond b (cond own (Comes p) (Dropped Foreign)) (Dropped WrongKind)) h.kind_is_taken
-    ∙ ap (λ b. cond b (Comes p) (Dropped Foreign)) (eq-eqb p.header.call.activity.machine (calling_machine p.to p.from) h.names_client)
+    ap (λ b. cond b (cond own (Comes p) (Dropped why.Foreign)) (Dropped why.Kind)) h.kind_is_taken
+    ∙ ap (λ b. cond b (Comes p) (Dropped why.Foreign)) (eq-eqb p.header.call.activity.machine (calling_machine p.to p.from) h.names_client)
 
 -- from the data of its frame the packet's own header and data are read
 own_datagram : Laws → (p : Packet) → CanArrive p → arrival_of_read p.to p.from (read_of (datagram_of p)) ≡ Comes p

@@ -7,7 +7,9 @@ use Rattle.rpc_header.specs.declared.Kind.{Kind}
 use Rattle.rpc_header.specs.declared.Kind.TheVariants as kind
 use Rattle.rpc_header.specs.Spelling.{HasSpelling, FitsFields}
 use Rattle.call_rules.specs.Packet.{Call, Packet, piece_size}
-use Rattle.call_rules.specs.Entry.{Entry, Word, word_of, judge, IsEmpty}
+use Rattle.call_rules.specs.Entry.{Entry, Word, word_of, judge}
+use Rattle.call_rules.specs.declared.entry.Phase.TheVariants as phase
+use Rattle.call_rules.specs.declared.entry.Judged.TheVariants as judged
 use Rattle.call_rules.specs.Entry as entry
 use Rattle.call_rules.specs.Worker.{Worker, Resting, Claimed, Admitted, Ran, Answer, Run, run_of}
 use Rattle.call_rules.specs.Caller.{is_idle, current_call}
@@ -90,7 +92,7 @@ pub record IsLine (starts : List Start) (returns : List Return) (machine process
 
 -- an entry that outlives a run of this number has that number or a greater one
 pub record Remembers (e : Entry) (number : ℕ) : Type 0 where
-  pub is_used : (word_of e).phase ≢ IsEmpty
+  pub is_used : (word_of e).phase ≢ phase.Empty
   pub reaches : number ≤ (word_of e).number
 
 abbrev pub HasRunning : List Entry → Packet → Type 0
@@ -98,7 +100,7 @@ HasRunning entries p = (e : Entry) → entry_at entries p.header.call.activity �
 
 pub record IsClaimed (starts : List Start) (p : Packet) (seen : Word) : Type 0 where
   pub packet : IsCallPacket starts p
-  pub judged : judge seen p.header ≡ entry.Admit
+  pub judged : judge seen p.header ≡ judged.Admit
 
 pub record IsAdmitted (starts : List Start) (journal : List Run) (entries : List Entry) (p : Packet) : Type 0 where
   pub packet : IsCallPacket starts p

@@ -9,19 +9,21 @@ use Rattle.rpc_header.specs.declared.Activity.{Activity}
 use Rattle.rpc_header.specs.declared.Kind.{Kind}
 use Rattle.rpc_header.specs.declared.Kind.TheVariants as kind
 use Rattle.call_rules.specs.Packet.{Call, Fields, is_same_call, is_same_activity}
-use Rattle.call_rules.specs.Entry.{Word, Phase, IsEmpty, IsGather, IsFilling, IsRunning, IsDone, IsSending, is_same_phase, is_same_word}
+use Rattle.call_rules.specs.Entry.{Word, is_same_phase, is_same_word}
+use Rattle.call_rules.specs.declared.entry.Phase.{Phase}
+use Rattle.call_rules.specs.declared.entry.Phase.TheVariants as phase
 use Rattle.call_rules.specs.Caller.{Caller, State, Act, Last, is_idle, current_call, on_packet, on_own_packet, unused, row}
 use Rattle.call_rules.specs.Caller as caller
 use Rattle.replay_model.specs.Script.{largest_number}
 use Rattle.replay_model.specs.Service.{served, adds, replies, raises}
 
 pub same_phase : (a b : Phase) → is_same_phase a b ≡ true → a ≡ b
-same_phase IsEmpty IsEmpty e = refl
-same_phase IsGather IsGather e = refl
-same_phase IsFilling IsFilling e = refl
-same_phase IsRunning IsRunning e = refl
-same_phase IsDone IsDone e = refl
-same_phase IsSending IsSending e = refl
+same_phase phase.Empty phase.Empty e = refl
+same_phase phase.Gather phase.Gather e = refl
+same_phase phase.Filling phase.Filling e = refl
+same_phase phase.Running phase.Running e = refl
+same_phase phase.Done phase.Done e = refl
+same_phase phase.Sending phase.Sending e = refl
 same_phase _ _ e = absurd (false≢true e)
 
 pub same_word : (a b : Word) → is_same_word a b ≡ true → a ≡ b

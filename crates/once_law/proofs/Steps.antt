@@ -14,7 +14,11 @@ use Rattle.once_law.proofs.Rows.{same_word, same_signal, last_of_packet, served_
 use Rattle.udp_frames.specs.Damage.{flipped}
 use Rattle.rpc_header.specs.declared.Activity.{Activity}
 use Rattle.call_rules.specs.Packet.{Packet}
-use Rattle.call_rules.specs.Entry.{Entry, Empty, Word, word_of, is_same_word, judge, Judged}
+use Rattle.call_rules.specs.Entry.{Entry, Empty, Word, word_of, is_same_word, judge}
+use Rattle.call_rules.specs.declared.entry.Judged.{Judged}
+use Rattle.call_rules.specs.declared.entry.Judged.TheVariants as judged
+use Rattle.call_rules.specs.declared.worker.Did.TheVariants as did
+use Rattle.call_rules.specs.declared.worker.Unfit.TheVariants as unfit
 use Rattle.call_rules.specs.Entry as entry
 use Rattle.call_rules.specs.Caller.{Caller, is_idle, current_call, on_packet, Act, Last}
 use Rattle.call_rules.specs.Worker.{Worker, Resting, Claimed, Admitted, Ran, Answer, Run, on_judged, on_idle, on_claimed, on_ran, reply_packet}
@@ -166,7 +170,7 @@ idle w n p rest e u h en er ee nothing hu =
     (λ q g. subst (λ ps. Contains ps q) (sym er) (Contains-append_right (p ∷ []) rest q g))
 
 Holds-judged : (w : World) (n : ℕ) (p : Packet) (rest : List Packet) (e : Entry) (j : Judged) → Holds w → numbered 1 w.server.workers n ≡ Some Resting → w.server.ready ≡ p ∷ rest → entry_at w.server.entries p.header.call.activity ≡ Some e → judge (word_of e) p.header ≡ j → Holds (after w (works (record w { server = record w.server { ready = rest } }) n p (on_judged j p e)))
-Holds-judged w n p rest e entry.Admit h en er ee ej =
+Holds-judged w n p rest e judged.Admit h en er ee ej =
     record {
       second_fits = h.second_fits;
       parts = idle w n p rest e (Claimed p (word_of e)) h en er ee refl (record { packet = h.parts.waits p (first_waits w p rest er); judged = ej });
@@ -184,7 +188,7 @@ Holds-claims_next w n (p ∷ rest) h en er =
 Holds-claimed : (w : World) (n : ℕ) (p : Packet) (seen : Word) (e : Entry) → Holds w → numbered 1 w.server.workers n ≡ Some (Claimed p seen) → entry_at w.server.entries p.header.call.activity ≡ Some e → Holds (after w (works w n p (on_claimed p seen e)))
 Holds-claimed w n p seen e h en ee =
     let own : IsClaimed w.records.started p seen = h.parts.works n (Claimed p seen) en in
-    cond_both (is_same_word (word_of e) seen) (record { worker = Admitted p; entry = entry.Running p.header.call.number; did = worker.Admits; sends = None }) (worker.drops e worker.Lost)
+    cond_both (is_same_word (word_of e) seen) (record { worker = Admitted p; entry = entry.Running p.header.call.number; did = did.Admits; sends = None }) (worker.drops e unfit.Lost)
     (λ s. Holds (after w (works w n p s)))
     (λ same. record {
       second_fits = h.second_fits;

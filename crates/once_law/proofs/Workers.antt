@@ -11,7 +11,9 @@ use Rattle.once_law.proofs.Framing.{reply_framed}
 use Rattle.once_law.proofs.Growth.{more_runs, IsSent-more_runs, IsWorker-more_runs, IsWorker-other_entries}
 use Rattle.rpc_header.specs.declared.Activity.{Activity}
 use Rattle.call_rules.specs.Packet.{Packet, Fields, piece_size}
-use Rattle.call_rules.specs.Entry.{Entry, Word, word_of, judge, IsEmpty, IsRunning}
+use Rattle.call_rules.specs.Entry.{Entry, Word, word_of, judge}
+use Rattle.call_rules.specs.declared.entry.Phase.TheVariants as phase
+use Rattle.call_rules.specs.declared.entry.Judged.TheVariants as judged
 use Rattle.call_rules.specs.Entry as entry
 use Rattle.call_rules.specs.Worker.{Worker, Resting, Claimed, Admitted, Ran, Answer, Run, run_of, reply_packet}
 use Rattle.replay_model.specs.Record.{Start, Return}
@@ -20,10 +22,10 @@ use Rattle.replay_model.specs.Once.{call_of_run}
 
 -- what an entry was where a packet is admitted by it
 pub record IsFree (w : Word) (number : ℕ) : Type 0 where
-  pub not_running : w.phase ≢ IsRunning
-  pub empty_or_less : (w.phase ≡ IsEmpty) ⊎ (w.number < number)
+  pub not_running : w.phase ≢ phase.Running
+  pub empty_or_less : (w.phase ≡ phase.Empty) ⊎ (w.number < number)
 
-pub free_where_admitted : (w : Word) (h : Fields) → judge w h ≡ entry.Admit → IsFree w h.call.number
+pub free_where_admitted : (w : Word) (h : Fields) → judge w h ≡ judged.Admit → IsFree w h.call.number
 free_where_admitted w h e = record { not_running = grind (arith, nat_tests); empty_or_less = grind (arith, nat_tests) }
 
 -- one worker is written, and runs a call of an activity of which no other runs one
@@ -56,7 +58,7 @@ Inv-idle cs es ws ready rest bag starts journal returns i v u a e h ev ee nothin
     }
 
 -- a worker that runs a call of an activity stands for an entry that is Running
-no_worker_where_free : (starts : List Start) (journal : List Run) (es : List Entry) (v : Worker) (a : Activity) (e : Entry) → IsWorker starts journal es v → entry_at es a ≡ Some e → (word_of e).phase ≢ IsRunning → RunsElsewhere a v
+no_worker_where_free : (starts : List Start) (journal : List Run) (es : List Entry) (v : Worker) (a : Activity) (e : Entry) → IsWorker starts journal es v → entry_at es a ≡ Some e → (word_of e).phase ≢ phase.Running → RunsElsewhere a v
 no_worker_where_free starts journal es Resting a e h ee free p r same = absurd (none-some p r)
 no_worker_where_free starts journal es (Claimed q seen) a e h ee free p r same = absurd (none-some p r)
 no_worker_where_free starts journal es (Admitted q) a e h ee free p r same =

@@ -4,11 +4,10 @@ ghost use Rattle.std.specs.Prelude.{◌≡◌, ◌++◌, OnOk, codes};
 ghost use Rattle.std.specs.Fmt.{decimal};
 ghost use Rattle.replay_model.specs.Record as act;
 ghost use Rattle.replay_model.specs.Lines.{blank, lines_of_act, discard_text, frame_fault_text, header_fault_text};
-ghost use Rattle.replay_packets.specs.Discard.{discard_of};
 
 use crate::digests::put_bytes;
 use crate::text::put;
-use replay_packets::Discard;
+use replay_model::Discard;
 use rpc_header::HeaderFault;
 use std::alloc::{AllocError, Global};
 use udp_frames::FrameFault;
@@ -23,7 +22,7 @@ pub fn put_ready(alloc: Global, out: &mut Vec<u8>, packet: u32) -> Result<(), Al
 
 /// Appends the line of a delivery that ends without a packet handed on.
 pub fn put_discard(out: &mut Vec<u8>, why: Discard) -> Result<(), AllocError>
-    ensures { OnOk result (out.new.items ≡ out.old.items ++ lines_of_act (act.Discards (discard_of why))) }
+    ensures { OnOk result (out.new.items ≡ out.old.items ++ lines_of_act (act.Discards why)) }
 {
     put(out, "drop ")?;
     put_reason(out, why)?;
@@ -31,7 +30,7 @@ pub fn put_discard(out: &mut Vec<u8>, why: Discard) -> Result<(), AllocError>
 }
 
 fn put_reason(out: &mut Vec<u8>, why: Discard) -> Result<(), AllocError>
-    ensures { OnOk result (out.new.items ≡ out.old.items ++ discard_text (discard_of why)) }
+    ensures { OnOk result (out.new.items ≡ out.old.items ++ discard_text why) }
 {
     match why {
         Discard::Frame(fault) => {

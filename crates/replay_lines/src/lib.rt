@@ -19,7 +19,7 @@ pub use counts::{Counts, put_end};
 pub use deliveries::{put_discard, put_frame, put_ready};
 pub use packets::put_packet;
 pub use runs::{RunLine, put_runs};
-pub use work::{Did, Unfit, put_idle, put_work};
+pub use work::{put_idle, put_work};
 
 #[cfg(test)]
 mod tests;

@@ -1,8 +1,10 @@
 //! Each kind of line once. The texts are those of worked transcripts.
 
 use super::*;
+use call_rules::{Did, Unfit};
 use ff_io::Station;
-use replay_packets::{Discard, Outgoing, SERVER};
+use replay_model::Discard;
+use replay_packets::{Outgoing, SERVER};
 use rpc_header::{Activity, CallId, Export, Header, HeaderFault, Kind, fits, number};
 use std::alloc::{AllocError, Global};
 use std::test::Fail;

@@ -11,7 +11,9 @@ use Rattle.udp_frames.specs.declared.fault.FrameFault.{FrameFault}
 use Rattle.udp_frames.specs.Frame.{frame}
 use Rattle.udp_frames.specs.Reading.{Datagram, reads}
 use Rattle.call_rules.specs.Packet.{Fields, Packet, fields_of}
-use Rattle.replay_model.specs.Record.{Discard, BadFrame, BadHeader, WrongKind, Foreign, server_machine}
+use Rattle.replay_model.specs.declared.discard.Discard.{Discard}
+use Rattle.replay_model.specs.declared.discard.Discard.TheVariants as why
+use Rattle.replay_model.specs.Record.{server_machine}
 
 -- the header with these fields; of a call number its lowest 48 bits
 abbrev pub header_of : Fields → Header
@@ -67,17 +69,17 @@ calling_machine me from = if me == server_machine then from else me
 abbrev pub arrival_of : (me : ℕ) → Packet → Arrival
 arrival_of me p =
     if takes_kind me p.header.kind
-    then (if p.header.call.activity.machine == calling_machine me p.from then Comes p else Dropped Foreign)
-    else Dropped WrongKind
+    then (if p.header.call.activity.machine == calling_machine me p.from then Comes p else Dropped why.Foreign)
+    else Dropped why.Kind
 
 -- what a header with its data says, that a machine sent
 abbrev pub arrival_of_read : (me from : ℕ) → Read → Arrival
-arrival_of_read me from (Refused fault) = Dropped (BadHeader fault)
+arrival_of_read me from (Refused fault) = Dropped (why.Header fault)
 arrival_of_read me from (Accepted header bytes) =
     arrival_of me (record { from = from; to = me; header = fields_of header; payload = bytes })
 
 abbrev pub arrival_of_frame : (me : ℕ) → Result Datagram FrameFault → Arrival
-arrival_of_frame me (Err fault) = Dropped (BadFrame fault)
+arrival_of_frame me (Err fault) = Dropped (why.Frame fault)
 arrival_of_frame me (Ok datagram) = arrival_of_read me datagram.sender (read_of datagram.payload)
 
 -- what machine `me` makes of these bytes: the first reason to drop them, or the packet that they carry

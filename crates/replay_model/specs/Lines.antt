@@ -11,9 +11,14 @@ use Rattle.rpc_header.specs.declared.HeaderFault.TheVariants as header_fault
 use Rattle.rpc_header.specs.declared.Kind.{Kind}
 use Rattle.rpc_header.specs.declared.Kind.TheVariants as kind
 use Rattle.call_rules.specs.Packet.{Call, Fields, Packet}
-use Rattle.call_rules.specs.Worker.{Run, Did, Unfit}
-use Rattle.call_rules.specs.Worker as worker
-use Rattle.replay_model.specs.Record.{Act, Counts, Discard}
+use Rattle.call_rules.specs.Worker.{Run}
+use Rattle.call_rules.specs.declared.worker.Did.{Did}
+use Rattle.call_rules.specs.declared.worker.Did.TheVariants as did
+use Rattle.call_rules.specs.declared.worker.Unfit.{Unfit}
+use Rattle.call_rules.specs.declared.worker.Unfit.TheVariants as unfit
+use Rattle.replay_model.specs.declared.discard.Discard.{Discard}
+use Rattle.replay_model.specs.declared.discard.Discard.TheVariants as why
+use Rattle.replay_model.specs.Record.{Act, Counts}
 use Rattle.replay_model.specs.Record as act
 
 abbrev pub blank : List ℕ
@@ -111,23 +116,32 @@ end_line c =
     ++ decimal c.signalled ++ codes " failed " ++ decimal c.failed ++ codes " refused " ++ decimal c.refused ++ newline
 
 abbrev pub unfit_text : Unfit → List ℕ
-unfit_text worker.Older = codes "Older"
-unfit_text worker.Same = codes "Same"
-unfit_text worker.Busy = codes "Busy"
-unfit_text worker.Unknown = codes "Unknown"
-unfit_text worker.Skipped = codes "Skipped"
-unfit_text worker.Lost = codes "Lost"
-unfit_text worker.Full = codes "Full"
-unfit_text worker.NoBuffer = codes "NoBuffer"
-unfit_text worker.BadName = codes "BadName"
+unfit_text unfit.Older = codes "Older"
+unfit_text unfit.Same = codes "Same"
+unfit_text unfit.Busy = codes "Busy"
+unfit_text unfit.Unknown = codes "Unknown"
+unfit_text unfit.Skipped = codes "Skipped"
+unfit_text unfit.Lost = codes "Lost"
+unfit_text unfit.Full = codes "Full"
+unfit_text unfit.NoBuffer = codes "NoBuffer"
+unfit_text unfit.BadName = codes "BadName"
 
--- VERB N, or why the packet is dropped
+-- VERB N, with a reason behind it where a call is refused; a wait, or why the packet is dropped
 abbrev pub did_text : ℕ → Did → List ℕ
-did_text n worker.Claims = codes "claims " ++ decimal n
-did_text n worker.Admits = codes "admits " ++ decimal n
-did_text n worker.Runs = codes "runs " ++ decimal n
-did_text n worker.Replies = codes "replies " ++ decimal n
-did_text n (worker.Drops why) = codes "drops " ++ unfit_text why
+did_text n did.Claims = codes "claims " ++ decimal n
+did_text n did.Admits = codes "admits " ++ decimal n
+did_text n did.Runs = codes "runs " ++ decimal n
+did_text n did.Replies = codes "replies " ++ decimal n
+did_text n did.Begins = codes "begins " ++ decimal n
+did_text n did.Takes = codes "takes " ++ decimal n
+did_text n did.Rests = codes "rests " ++ decimal n
+did_text n did.Fetches = codes "fetches " ++ decimal n
+did_text n did.Resends = codes "resends " ++ decimal n
+did_text n did.Acks = codes "acks " ++ decimal n
+did_text n did.Answers = codes "answers " ++ decimal n
+did_text n (did.Rejects reason) = codes "rejects " ++ decimal n ++ blank ++ decimal reason
+did_text n did.Waits = codes "waits"
+did_text n (did.Drops reason) = codes "drops " ++ unfit_text reason
 
 abbrev pub frame_fault_text : FrameFault → List ℕ
 frame_fault_text frame_fault.Short = codes "Short"
@@ -157,17 +171,17 @@ header_fault_text header_fault.ShortFragment = codes "ShortFragment"
 header_fault_text header_fault.FragmentNumber = codes "FragmentNumber"
 
 abbrev pub discard_text : Discard → List ℕ
-discard_text (act.BadFrame fault) = codes "frame " ++ frame_fault_text fault
-discard_text (act.BadHeader fault) = codes "header " ++ header_fault_text fault
-discard_text act.WrongKind = codes "Kind"
-discard_text act.Foreign = codes "Foreign"
-discard_text act.NoBuffer = codes "NoBuffer"
-discard_text act.NoRoom = codes "NoRoom"
-discard_text act.NoCell = codes "NoCell"
-discard_text act.Stale = codes "Stale"
-discard_text act.Taken = codes "Taken"
-discard_text act.Lost = codes "Lost"
-discard_text act.Unused = codes "Unused"
+discard_text (why.Frame fault) = codes "frame " ++ frame_fault_text fault
+discard_text (why.Header fault) = codes "header " ++ header_fault_text fault
+discard_text why.Kind = codes "Kind"
+discard_text why.Foreign = codes "Foreign"
+discard_text why.NoBuffer = codes "NoBuffer"
+discard_text why.NoRoom = codes "NoRoom"
+discard_text why.NoCell = codes "NoCell"
+discard_text why.Stale = codes "Stale"
+discard_text why.Taken = codes "Taken"
+discard_text why.Lost = codes "Lost"
+discard_text why.Unused = codes "Unused"
 
 abbrev pub return_line : Call → Bool → List ℕ → List ℕ
 return_line call false reply = codes "returned " ++ call_text call ++ blank ++ bytes_text reply ++ newline
@@ -186,9 +200,9 @@ lines_of_act (act.Sends k p) = codes "packet " ++ packet_text k p ++ newline
 lines_of_act (act.Readies k) = codes "ready " ++ decimal k ++ newline
 lines_of_act (act.Hears a k) = []
 lines_of_act (act.Returns r) = return_line r.call r.signal r.reply
-lines_of_act (act.Discards why) = codes "drop " ++ discard_text why ++ newline
+lines_of_act (act.Discards reason) = codes "drop " ++ discard_text reason ++ newline
 lines_of_act (act.Idles number) = codes "worker " ++ decimal number ++ codes " idle" ++ newline
-lines_of_act (act.Works number n did) = codes "worker " ++ decimal number ++ blank ++ did_text n did ++ newline
+lines_of_act (act.Works number n step) = codes "worker " ++ decimal number ++ blank ++ did_text n step ++ newline
 lines_of_act (act.HasRun run) = []
 lines_of_act (act.Shows k bytes) = frame_line k bytes
 lines_of_act (act.ListsRuns runs) = journal_lines runs

@@ -3,10 +3,10 @@
 use Rattle.std.specs.Prelude.{ℕ, List, [], ◌∷◌, ◌++◌, length, filter, Option, Bool, true, false, not, ◌==◌, if◌then◌else◌}
 use Rattle.rpc_header.specs.declared.Activity.{Activity}
 use Rattle.rpc_header.specs.declared.Export.{Export}
-use Rattle.rpc_header.specs.declared.HeaderFault.{HeaderFault}
-use Rattle.udp_frames.specs.declared.fault.FrameFault.{FrameFault}
 use Rattle.call_rules.specs.Packet.{Call, Packet}
-use Rattle.call_rules.specs.Worker.{Run, Did}
+use Rattle.call_rules.specs.Worker.{Run}
+use Rattle.call_rules.specs.declared.worker.Did.{Did}
+use Rattle.replay_model.specs.declared.discard.Discard.{Discard}
 
 -- an accepted start of a call
 pub record Start : Type 0 where
@@ -84,28 +84,6 @@ counts_of r =
       failed = length (filter (λ (f : Failure). is_unanswered f.cause) r.failures);
       refused = length (filter (λ (f : Failure). not (is_unanswered f.cause)) r.failures);
     }
-
--- why a delivery ends without a packet handed on, in the order in which this is looked for
-pub data Discard : Type 0 where
-  BadFrame : FrameFault → Discard
-  BadHeader : HeaderFault → Discard
-  -- a kind that the receiver doesn't take
-  WrongKind : Discard
-  -- the header names another machine than the sender, at a client another than this
-  Foreign : Discard
-  -- no buffer is free
-  NoBuffer : Discard
-  -- the server's list of ready packets is full
-  NoRoom : Discard
-  -- the hint names no cell
-  NoCell : Discard
-  -- the cell waits for no packet of this call
-  Stale : Discard
-  -- the cell holds one already, or was changed meanwhile
-  Taken : Discard
-  Lost : Discard
-  -- the caller's rules have no row for the packet
-  Unused : Discard
 
 -- one thing that happens in an event
 pub data Act : Type 0 where

@@ -5,13 +5,17 @@ use Rattle.udp_frames.specs.Damage.{flipped}
 use Rattle.call_rules.specs.Packet.{Packet}
 use Rattle.call_rules.specs.Entry.{Entry, Empty}
 use Rattle.call_rules.specs.Caller as caller
-use Rattle.call_rules.specs.Worker.{Worker, Resting, Claimed, Admitted, Ran, on_idle, on_claimed, on_admitted, on_ran, run_of, drops, Full}
+use Rattle.call_rules.specs.Worker.{Worker, Resting, Claimed, Admitted, Ran, on_idle, on_claimed, on_admitted, on_ran, run_of, drops}
 use Rattle.call_rules.specs.Worker as worker
+use Rattle.call_rules.specs.declared.worker.Did.TheVariants as did
+use Rattle.call_rules.specs.declared.worker.Unfit.TheVariants as unfit
 use Rattle.replay_model.specs.declared.event.CallWord.{CallWord}
 use Rattle.replay_model.specs.declared.event.Event.{Event}
 use Rattle.replay_model.specs.declared.event.Event.TheVariants as event
 use Rattle.replay_model.specs.Service.{Served, served, procedure_of, arguments_of}
-use Rattle.replay_model.specs.Record.{Act, Impossible, Starts, TooFast, Sends, Readies, Hears, Returns, Discards, Discard, NoRoom, NoCell, Stale, Unused, Idles, Works, HasRun, Shows, ListsRuns, Ends, counts_of, recorded_all, server_machine}
+use Rattle.replay_model.specs.declared.discard.Discard.{Discard}
+use Rattle.replay_model.specs.declared.discard.Discard.TheVariants as why
+use Rattle.replay_model.specs.Record.{Act, Impossible, Starts, TooFast, Sends, Readies, Hears, Returns, Discards, Idles, Works, HasRun, Shows, ListsRuns, Ends, counts_of, recorded_all, server_machine}
 use Rattle.replay_model.specs.Arrival.{Arrival, Comes, Dropped, arrives, frame_of}
 use Rattle.replay_model.specs.World.{World, Client, Line, numbered, with_numbered, packet_at, first_client, entry_at, with_entry, number_limit}
 
@@ -87,7 +91,7 @@ unfoldable pub server_takes : World → (number : ℕ) → Packet → Outcome
 server_takes w k p =
     if nat_lt (length w.server.ready) ready_cells
     then record { world = record w { server = record w.server { ready = w.server.ready ++ p ∷ [] } }; acts = Readies k ∷ [] }
-    else discarded w NoRoom
+    else discarded w why.NoRoom
 
 -- a caller's act on a packet
 abbrev pub heard : World → (number : ℕ) → Packet → Client → Line → caller.Caller → caller.Act → Outcome
@@ -96,21 +100,21 @@ heard w k p c l after (caller.Last signal) =
       world = with_client w p.to (with_line c (p.header.hint + 1) (record l { caller = after }));
       acts = Hears p.header.call.activity k ∷ Returns (record { call = p.header.call; signal = signal; reply = p.payload }) ∷ [];
     }
-heard w k p c l after _ = discarded w Unused
+heard w k p c l after _ = discarded w why.Unused
 
 -- the cell takes a packet of the number that its caller waits for
 unfoldable pub line_takes : World → (number : ℕ) → Packet → Client → Option Line → Outcome
-line_takes w k p c None = discarded w NoCell
+line_takes w k p c None = discarded w why.NoCell
 line_takes w k p c (Some l) =
     if caller.is_idle l.caller.state
-    then discarded w Stale
+    then discarded w why.Stale
     else (if l.caller.number == p.header.call.number
     then heard w k p c l (caller.on_packet l.caller p.header).caller (caller.on_packet l.caller p.header).act
-    else discarded w Stale)
+    else discarded w why.Stale)
 
 -- the cell of the client that the header's hint names takes the packet
 unfoldable pub client_takes : World → (number : ℕ) → Packet → Option Client → Outcome
-client_takes w k p None = discarded w NoCell
+client_takes w k p None = discarded w why.NoCell
 client_takes w k p (Some c) = line_takes w k p c (numbered 1 c.lines (p.header.hint + 1))
 
 -- packet k has come to its receiver
@@ -164,12 +168,12 @@ runs_body w number p e s =
     let after : World = (works w number p (on_admitted p s.answer e)).world in
     record {
       world = record after { server = record after.server { total = s.total } };
-      acts = Works number p.header.call.number worker.Runs ∷ HasRun (run_of p s.answer) ∷ [];
+      acts = Works number p.header.call.number did.Runs ∷ HasRun (run_of p s.answer) ∷ [];
     }
 
 -- an idle worker has taken the packet p, whose activity has this entry
 unfoldable pub claims : World → (who : ℕ) → Packet → Option Entry → Outcome
-claims w number p None = works w number p (drops Empty Full)
+claims w number p None = works w number p (drops Empty unfit.Full)
 claims w number p (Some e) = works w number p (on_idle p e)
 
 -- an idle worker takes the oldest ready packet; without one, it stays idle

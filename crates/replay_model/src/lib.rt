@@ -6,10 +6,12 @@
 //! the definitions: the contract of each is the law, and its body is empty or only calls laws that it rests on.
 #![tactic(auto)]
 
+mod discard;
 mod event;
 mod laws;
 pub mod limits;
 
+pub use discard::Discard;
 pub use event::{ADD, CallWord, Event, NULL};
 pub use laws::fields_are_a_header;
 

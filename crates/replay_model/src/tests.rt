@@ -6,7 +6,7 @@ ghost use Rattle.replay_model.specs.declared.event.CallWord.TheVariants as word;
 ghost use Rattle.replay_model.specs.declared.event.Event.TheVariants as event;
 ghost use Rattle.replay_model.specs.Arrival.{Comes, Dropped, arrival_of};
 ghost use Rattle.replay_model.specs.Lines.{newline};
-ghost use Rattle.replay_model.specs.Record.{WrongKind, Foreign};
+ghost use Rattle.replay_model.specs.declared.discard.Discard.TheVariants as why;
 ghost use Rattle.replay_model.specs.Service.{served};
 ghost use Rattle.replay_model.specs.Examples.{packet_from};
 ghost use Rattle.replay_model.specs.Transcript.{transcript};
@@ -157,11 +157,11 @@ fn answers_of_the_service()
 
 /// Which packets a machine takes, and whose: a Kind counts before the machine that the header names.
 fn arrivals_by_kind_and_machine()
-    ensures result_at_server { arrival_of 1 (packet_from 2 1 kind.Result 2) ≡ Dropped WrongKind }
-    ensures call_at_client { arrival_of 2 (packet_from 1 2 kind.Call 2) ≡ Dropped WrongKind }
-    ensures foreign_call { arrival_of 1 (packet_from 3 1 kind.Call 2) ≡ Dropped Foreign }
-    ensures foreign_result { arrival_of 3 (packet_from 1 3 kind.Result 2) ≡ Dropped Foreign }
-    ensures kind_first { arrival_of 1 (packet_from 3 1 kind.Result 2) ≡ Dropped WrongKind }
+    ensures result_at_server { arrival_of 1 (packet_from 2 1 kind.Result 2) ≡ Dropped why.Kind }
+    ensures call_at_client { arrival_of 2 (packet_from 1 2 kind.Call 2) ≡ Dropped why.Kind }
+    ensures foreign_call { arrival_of 1 (packet_from 3 1 kind.Call 2) ≡ Dropped why.Foreign }
+    ensures foreign_result { arrival_of 3 (packet_from 1 3 kind.Result 2) ≡ Dropped why.Foreign }
+    ensures kind_first { arrival_of 1 (packet_from 3 1 kind.Result 2) ≡ Dropped why.Kind }
     ensures call { arrival_of 1 (packet_from 2 1 kind.Call 2) ≡ Comes (packet_from 2 1 kind.Call 2) }
     ensures ack { arrival_of 2 (packet_from 1 2 kind.Ack 2) ≡ Comes (packet_from 1 2 kind.Ack 2) }
     ensures signal { arrival_of 2 (packet_from 1 2 kind.Signal 2) ≡ Comes (packet_from 1 2 kind.Signal 2) }

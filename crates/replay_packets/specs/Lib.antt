@@ -1,3 +1,2 @@
-pub mod Discard
 pub mod Packet
 pub mod Sent

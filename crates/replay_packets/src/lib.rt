@@ -1,12 +1,11 @@
 //! Packets in their frames: what is sent, what arrives, and why a delivery ends.
 #![tactic(auto)]
 
-mod discard;
 mod packet;
 mod sent;
 
-pub use discard::Discard;
 pub use packet::{Arrived, Packet, SERVER, arrive};
+pub use replay_model::Discard;
 pub use sent::{Outgoing, Sent};
 
 #[cfg(test)]

@@ -4,12 +4,11 @@ ghost use Rattle.std.specs.Prelude.{◌≡◌, ◌≤◌, length, take, IfOk, Ma
 ghost use Rattle.call_rules.specs.Packet.{fields_of};
 ghost use Rattle.call_rules.specs.Worker as rules;
 ghost use Rattle.replay_model.specs.Arrival as model;
-ghost use Rattle.replay_packets.specs.Discard.{discard_of};
 ghost use Rattle.replay_packets.specs.Packet.{packet_of};
 
-use crate::discard::Discard;
 use crate::sent::Outgoing;
 use ff_io::Station;
+use replay_model::Discard;
 use rpc_header::{Header, Kind, MAX_DATA, read_header};
 use std::alloc::{AllocError, Global};
 use std::marker::Model;
@@ -39,7 +38,7 @@ pub struct Arrived<'a> {
 pub fn arrive(me: Station, frame: &[u8]) -> Result<Arrived<'_>, Discard>
     ensures arrival { MatchResult result
         (λ packet. model.arrives me.machine frame.now ≡ model.Comes (packet_of packet))
-        (λ why. model.arrives me.machine frame.now ≡ model.Dropped (discard_of why)) }
+        (λ why. model.arrives me.machine frame.now ≡ model.Dropped why) }
     ensures here { IfOk result (λ packet. packet.to.machine ≡ me.machine) }
     ensures short { IfOk result (λ packet. length packet.payload.now ≤ MAX_DATA) }
 {

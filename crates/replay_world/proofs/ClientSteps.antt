@@ -4,7 +4,8 @@ use Rattle.std.specs.Prelude.{◌==◌}
 use Rattle.std.proofs.lemmas.Bool.{cond-true, cond-false, eq-eqb, le-leb, lt-leb}
 use Rattle.call_rules.specs.Packet.{Packet}
 use Rattle.call_rules.specs.Caller.{Caller, is_idle, on_packet}
-use Rattle.replay_model.specs.Record.{Stale, Unused, NoCell, Starts, Sends}
+use Rattle.replay_model.specs.Record.{Starts, Sends}
+use Rattle.replay_model.specs.declared.discard.Discard.TheVariants as why
 use Rattle.replay_model.specs.World.{World, Client, Line, numbered, number_limit}
 use Rattle.replay_model.specs.Step.{Outcome, discarded, heard, line_takes, client_takes, with_line, with_client, with_packet, call_by, call_packet, started_caller, starts, too_fast, impossible}
 use Rattle.caller_core.specs.declared.action.Action.{Action}
@@ -16,11 +17,11 @@ use Rattle.replay_world.specs.declared.client.Called.TheVariants as called
 use Rattle.replay_world.specs.declared.client.Took.TheVariants as took
 use Rattle.replay_world.specs.Client.{took_outcome, started_line, start_of, CallsAs}
 
-pub takes_idle : (w : World) (k : ℕ) (p : Packet) (c : Client) (l : Line) → is_idle l.caller.state ≡ true → line_takes w k p c (Some l) ≡ discarded w Stale
+pub takes_idle : (w : World) (k : ℕ) (p : Packet) (c : Client) (l : Line) → is_idle l.caller.state ≡ true → line_takes w k p c (Some l) ≡ discarded w why.Stale
 unfolding line_takes
 takes_idle w k p c l h = cond-true _ _ _ h
 
-pub takes_other : (w : World) (k : ℕ) (p : Packet) (c : Client) (l : Line) → is_idle l.caller.state ≡ false → (l.caller.number == p.header.call.number) ≡ false → line_takes w k p c (Some l) ≡ discarded w Stale
+pub takes_other : (w : World) (k : ℕ) (p : Packet) (c : Client) (l : Line) → is_idle l.caller.state ≡ false → (l.caller.number == p.header.call.number) ≡ false → line_takes w k p c (Some l) ≡ discarded w why.Stale
 unfolding line_takes
 takes_other w k p c l h n = cond-false _ _ _ h ∙ cond-false _ _ _ n
 
@@ -29,7 +30,7 @@ unfolding line_takes
 takes_own w k p c l h n = cond-false _ _ _ h ∙ cond-true _ _ _ (eq-eqb _ _ n)
 
 -- an act that isn't the last of a reply
-pub heard_other : (w : World) (k : ℕ) (p : Packet) (c : Client) (l : Line) (after : Caller) (a : Action) → ((s : Bool) → a ≡ action.Last s → ⊥) → heard w k p c l after (act_of a) ≡ discarded w Unused
+pub heard_other : (w : World) (k : ℕ) (p : Packet) (c : Client) (l : Line) (after : Caller) (a : Action) → ((s : Bool) → a ≡ action.Last s → ⊥) → heard w k p c l after (act_of a) ≡ discarded w why.Unused
 heard_other w k p c l after (action.Last s) h = absurd (h s refl)
 heard_other w k p c l after _ h = refl
 
@@ -40,12 +41,12 @@ took_last w k p c l after a s idle number e f g =
     ∙ (ap (λ (x : Caller). heard w k p c l x (on_packet l.caller p.header).act) (sym e) ∙ ap (heard w k p c l after) (sym f ∙ ap act_of g))
 
 -- a packet that changes nothing
-pub took_unused : (w : World) (k : ℕ) (p : Packet) (c : Client) (l : Line) (a : Action) → is_idle l.caller.state ≡ false → l.caller.number ≡ p.header.call.number → act_of a ≡ (on_packet l.caller p.header).act → ((s : Bool) → a ≡ action.Last s → ⊥) → line_takes w k p c (Some l) ≡ discarded w Unused
+pub took_unused : (w : World) (k : ℕ) (p : Packet) (c : Client) (l : Line) (a : Action) → is_idle l.caller.state ≡ false → l.caller.number ≡ p.header.call.number → act_of a ≡ (on_packet l.caller p.header).act → ((s : Bool) → a ≡ action.Last s → ⊥) → line_takes w k p c (Some l) ≡ discarded w why.Unused
 took_unused w k p c l a idle number f g =
     takes_own w k p c l idle number
     ∙ (ap (heard w k p c l (on_packet l.caller p.header).caller) (sym f) ∙ heard_other w k p c l (on_packet l.caller p.header).caller a g)
 
-pub client_takes-none : (w : World) (k : ℕ) (p : Packet) (c : Client) → numbered 1 c.lines (p.header.hint + 1) ≡ None → client_takes w k p (Some c) ≡ discarded w NoCell
+pub client_takes-none : (w : World) (k : ℕ) (p : Packet) (c : Client) → numbered 1 c.lines (p.header.hint + 1) ≡ None → client_takes w k p (Some c) ≡ discarded w why.NoCell
 unfolding client_takes line_takes
 client_takes-none w k p c h = ap (line_takes w k p c) h
 

@@ -4,8 +4,14 @@ use Rattle.std.proofs.lemmas.List.{set-set}
 use Rattle.std.proofs.lemmas.Bool.{cond-false}
 use Rattle.rpc_header.specs.declared.Activity.{Activity}
 use Rattle.call_rules.specs.Packet.{Packet}
-use Rattle.call_rules.specs.Entry.{Entry, Word, Empty, Judged, Admit, word_of, is_same_word, judge}
-use Rattle.call_rules.specs.Worker.{Step, Unfit, Answer, drops, on_idle, on_judged, on_claimed, on_ran, run_of, reply_packet, Resting, Claims, Drops, Full, Lost}
+use Rattle.call_rules.specs.Entry.{Entry, Word, Empty, word_of, is_same_word, judge}
+use Rattle.call_rules.specs.Worker.{Step, Answer, drops, on_idle, on_judged, on_claimed, on_ran, run_of, reply_packet, Resting}
+use Rattle.call_rules.specs.declared.entry.Judged.{Judged}
+use Rattle.call_rules.specs.declared.entry.Judged.TheVariants as judged
+use Rattle.call_rules.specs.declared.worker.Did.{Did}
+use Rattle.call_rules.specs.declared.worker.Did.TheVariants as verb
+use Rattle.call_rules.specs.declared.worker.Unfit.{Unfit}
+use Rattle.call_rules.specs.declared.worker.Unfit.TheVariants as unfit
 use Rattle.call_rules.specs.Worker as rules
 use Rattle.replay_model.specs.World.{World, Server, entry_at, with_entry}
 use Rattle.replay_model.specs.Record.{Works, HasRun, Sends}
@@ -25,30 +31,30 @@ pub known_step : (step known : Step) (p : Packet) (old new : Server) (after : ru
 known_step step known p old new after did h s = let P : Step → Type 0 = λ x. Steps x p old new after did in subst P h s
 
 -- a packet is dropped, and the entry kept
-pub steps_dropped : (s : Server) (p : Packet) (e : Entry) (why : Unfit) (after : rules.Worker) (did : Worked) → with_entry s.entries p.header.call.activity e ≡ s.entries → after ≡ Resting → IsStep did p.header.call.number (Drops why) → Steps (drops e why) p s s after did
+pub steps_dropped : (s : Server) (p : Packet) (e : Entry) (why : Unfit) (after : rules.Worker) (did : Worked) → with_entry s.entries p.header.call.activity e ≡ s.entries → after ≡ Resting → IsStep did p.header.call.number (verb.Drops why) → Steps (drops e why) p s s after did
 steps_dropped s p e why after did h worker is =
     record { worker = worker; server = kept s p.header.call.activity e h; step_is = is; sends = refl }
 
-pub claim_none : (s : Server) (p : Packet) (after : rules.Worker) (did : Worked) → entry_at s.entries p.header.call.activity ≡ None → after ≡ Resting → IsStep did p.header.call.number (Drops Full) → Steps (claim_step (entry_at s.entries p.header.call.activity) p) p s s after did
+pub claim_none : (s : Server) (p : Packet) (after : rules.Worker) (did : Worked) → entry_at s.entries p.header.call.activity ≡ None → after ≡ Resting → IsStep did p.header.call.number (verb.Drops unfit.Full) → Steps (claim_step (entry_at s.entries p.header.call.activity) p) p s s after did
 claim_none s p after did h worker is =
     known_step _ (claim_step None p) p s s after did (ap (λ (o : Option Entry). claim_step o p) (sym h))
-    (steps_dropped s p Empty Full after did (with_entry-same s.entries p.header.call.activity None h) worker is)
+    (steps_dropped s p Empty unfit.Full after did (with_entry-same s.entries p.header.call.activity None h) worker is)
 
-pub claim_drops : (s : Server) (p : Packet) (e : Entry) (why : Unfit) (after : rules.Worker) (did : Worked) → entry_at s.entries p.header.call.activity ≡ Some e → on_idle p e ≡ drops e why → after ≡ Resting → IsStep did p.header.call.number (Drops why) → Steps (claim_step (entry_at s.entries p.header.call.activity) p) p s s after did
-claim_drops s p e why after did h judged worker is =
-    known_step _ (drops e why) p s s after did (sym judged ∙ ap (λ (o : Option Entry). claim_step o p) (sym h))
+pub claim_drops : (s : Server) (p : Packet) (e : Entry) (why : Unfit) (after : rules.Worker) (did : Worked) → entry_at s.entries p.header.call.activity ≡ Some e → on_idle p e ≡ drops e why → after ≡ Resting → IsStep did p.header.call.number (verb.Drops why) → Steps (claim_step (entry_at s.entries p.header.call.activity) p) p s s after did
+claim_drops s p e why after did h reason worker is =
+    known_step _ (drops e why) p s s after did (sym reason ∙ ap (λ (o : Option Entry). claim_step o p) (sym h))
     (steps_dropped s p e why after did (with_entry-same s.entries p.header.call.activity (Some e) h) worker is)
 
-pub claim_claims : (s : Server) (p : Packet) (e : Entry) (after : rules.Worker) (did : Worked) → entry_at s.entries p.header.call.activity ≡ Some e → judge (word_of e) p.header ≡ Admit → after ≡ rules.Claimed p (word_of e) → IsStep did p.header.call.number Claims → Steps (claim_step (entry_at s.entries p.header.call.activity) p) p s s after did
-claim_claims s p e after did h judged worker is =
-    known_step _ (on_judged Admit p e) p s s after did (ap (λ (j : Judged). on_judged j p e) (sym judged) ∙ ap (λ (o : Option Entry). claim_step o p) (sym h))
+pub claim_claims : (s : Server) (p : Packet) (e : Entry) (after : rules.Worker) (did : Worked) → entry_at s.entries p.header.call.activity ≡ Some e → judge (word_of e) p.header ≡ judged.Admit → after ≡ rules.Claimed p (word_of e) → IsStep did p.header.call.number verb.Claims → Steps (claim_step (entry_at s.entries p.header.call.activity) p) p s s after did
+claim_claims s p e after did h fits worker is =
+    known_step _ (on_judged judged.Admit p e) p s s after did (ap (λ (j : Judged). on_judged j p e) (sym fits) ∙ ap (λ (o : Option Entry). claim_step o p) (sym h))
     (record { worker = worker; server = kept s p.header.call.activity e (with_entry-same s.entries p.header.call.activity (Some e) h); step_is = is; sends = refl })
 
 -- the entry has changed since the packet was claimed
-pub admit_lost : (s : Server) (p : Packet) (seen : Word) (after : rules.Worker) (did : Worked) → is_same_word (word_of (entry_in s p)) seen ≡ false → after ≡ Resting → IsStep did p.header.call.number (Drops Lost) → Steps (on_claimed p seen (entry_in s p)) p s s after did
+pub admit_lost : (s : Server) (p : Packet) (seen : Word) (after : rules.Worker) (did : Worked) → is_same_word (word_of (entry_in s p)) seen ≡ false → after ≡ Resting → IsStep did p.header.call.number (verb.Drops unfit.Lost) → Steps (on_claimed p seen (entry_in s p)) p s s after did
 admit_lost s p seen after did h worker is =
-    known_step _ (drops (entry_in s p) Lost) p s s after did (sym (cond-false _ _ _ h))
-    (steps_dropped s p (entry_in s p) Lost after did (with_entry-kept s.entries p.header.call.activity) worker is)
+    known_step _ (drops (entry_in s p) unfit.Lost) p s s after did (sym (cond-false _ _ _ h))
+    (steps_dropped s p (entry_in s p) unfit.Lost after did (with_entry-kept s.entries p.header.call.activity) worker is)
 
 -- the server with a worker's step, and after it with the worker put back
 put_back : (s0 s1 : Server) (j : ℕ) (es : List Entry) (t : ℕ) (x x1 : rules.Worker) → x1 ≡ x → s1 ≡ record s0 { workers = set s0.workers j Resting; entries = es; total = t } → record s0 { workers = set s0.workers j x; entries = es; total = t } ≡ record s1 { workers = set s1.workers j x1 }
@@ -64,7 +70,7 @@ steps_work w sx s0 s1 i p step x1 (worked.Step n d) h =
     ap (sent (record w { server = record s0 { workers = set s0.workers (i - 1) step.worker; entries = es } }) (Works i p.header.call.number step.did ∷ [])) h.sends
     ∙ (ap (λ (s : Server). record { world = record w { server = s }; acts = Works i p.header.call.number step.did ∷ [] }) (put_back s0 s1 (i - 1) es s0.total step.worker x1 h.worker h.server)
     ∙ (ap (λ (m : ℕ). record { world = record w { server = record s1 { workers = set s1.workers (i - 1) x1 } }; acts = Works i m step.did ∷ [] }) (sym h.step_is.0)
-    ∙ ap (λ (m : rules.Did). record { world = record w { server = record s1 { workers = set s1.workers (i - 1) x1 } }; acts = Works i n m ∷ [] }) (sym h.step_is.1)))
+    ∙ ap (λ (m : Did). record { world = record w { server = record s1 { workers = set s1.workers (i - 1) x1 } }; acts = Works i n m ∷ [] }) (sym h.step_is.1)))
 steps_work w sx s0 s1 i p step x1 worked.Impossible h = absurd h.step_is
 steps_work w sx s0 s1 i p step x1 worked.Idle h = absurd h.step_is
 steps_work w sx s0 s1 i p step x1 (worked.Runs line) h = absurd h.step_is
@@ -92,8 +98,8 @@ body_works w s0 s1 i p x1 (worked.Runs line) h =
     let s : Served = served s0.total p.header.procedure p.payload in (
       run_of p s.answer,
       h.run_is,
-      ap (λ (es : List Entry). record { world = record w { server = record s0 { workers = set s0.workers (i - 1) (rules.Ran p s.answer); entries = es; total = s.total } }; acts = Works i p.header.call.number rules.Runs ∷ HasRun (run_of p s.answer) ∷ [] }) (with_entry-kept s0.entries p.header.call.activity)
-          ∙ ap (λ (t : Server). record { world = record w { server = t }; acts = Works i p.header.call.number rules.Runs ∷ HasRun (run_of p s.answer) ∷ [] }) (put_back s0 s1 (i - 1) s0.entries s.total (rules.Ran p s.answer) x1 h.worker h.server),
+      ap (λ (es : List Entry). record { world = record w { server = record s0 { workers = set s0.workers (i - 1) (rules.Ran p s.answer); entries = es; total = s.total } }; acts = Works i p.header.call.number verb.Runs ∷ HasRun (run_of p s.answer) ∷ [] }) (with_entry-kept s0.entries p.header.call.activity)
+          ∙ ap (λ (t : Server). record { world = record w { server = t }; acts = Works i p.header.call.number verb.Runs ∷ HasRun (run_of p s.answer) ∷ [] }) (put_back s0 s1 (i - 1) s0.entries s.total (rules.Ran p s.answer) x1 h.worker h.server),
     )
 body_works w s0 s1 i p x1 worked.Impossible h = absurd h.run_is
 body_works w s0 s1 i p x1 worked.Idle h = absurd h.run_is
@@ -107,7 +113,7 @@ reply_works w s0 s1 i p answer x1 did h =
     let P : Worked → Type 0 = λ d. WorksAs (record w { server = s0 }) i (record s1 { workers = set s1.workers (i - 1) x1 }) d o in
     let es : List Entry = with_entry s0.entries p.header.call.activity (on_ran p answer (entry_in s0 p)).entry in
     subst P (sym h.reply_is)
-    (ap (λ (t : Server). record { world = with_packet (record w { server = t }) (reply_packet p answer); acts = Works i p.header.call.number rules.Replies ∷ Sends (length w.bag + 1) (reply_packet p answer) ∷ [] })
+    (ap (λ (t : Server). record { world = with_packet (record w { server = t }) (reply_packet p answer); acts = Works i p.header.call.number verb.Replies ∷ Sends (length w.bag + 1) (reply_packet p answer) ∷ [] })
     (put_back s0 s1 (i - 1) es s0.total Resting x1 h.worker h.server))
 
 -- the step of a worker, by its state

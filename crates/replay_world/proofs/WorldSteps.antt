@@ -5,7 +5,8 @@ use Rattle.std.proofs.lemmas.Bool.{cond-true, cond-false, eq-eqb, ne_eqb, le-ltb
 use Rattle.udp_frames.specs.Damage.{flipped}
 use Rattle.call_rules.specs.Packet.{Packet}
 use Rattle.replay_model.specs.declared.event.CallWord.{CallWord}
-use Rattle.replay_model.specs.Record.{Counts, NoCell, NoRoom, Stale, Unused, Readies, Shows, counts_of, no_records, server_machine}
+use Rattle.replay_model.specs.declared.discard.Discard.TheVariants as why
+use Rattle.replay_model.specs.Record.{Counts, Readies, Shows, counts_of, no_records, server_machine}
 use Rattle.replay_model.specs.World.{World, Server, Client, numbered, first_client, booted_server, first_world}
 use Rattle.replay_model.specs.Arrival.{frame_of}
 use Rattle.replay_model.specs.Step.{impossible, discarded, call_by, call_event, server_takes, ready_cells, client_takes, machine_takes, receives, deliver_event, damage_event, show_event}
@@ -59,22 +60,22 @@ pub machine_takes-client : (w : World) (k : ℕ) (p : Packet) → (p.to ≡ serv
 unfolding machine_takes
 machine_takes-client w k p to = cond-false _ _ _ (ne_eqb p.to server_machine to)
 
-pub client_takes-nobody : (w : World) (k : ℕ) (p : Packet) (o : Option Client) → o ≡ None → client_takes w k p o ≡ discarded w NoCell
+pub client_takes-nobody : (w : World) (k : ℕ) (p : Packet) (o : Option Client) → o ≡ None → client_takes w k p o ≡ discarded w why.NoCell
 unfolding client_takes
 client_takes-nobody w k p o h = ap (client_takes w k p) h
 
 -- what a client did about a packet, in the world with the client after it
 pub took-by : (w : World) (xs : List Client) (j k : ℕ) (p : Packet) (c new : Client) (t : Took) → j ≡ p.to - 2 → c ≡ get_or xs j c → KeepsMissed t c new → took_outcome (record w { clients = xs }) k p new t ≡ took_in (record w { clients = set xs j new }) k p t
-took-by w xs j k p c new took.NoCell to at keep = ap (λ (ys : List Client). discarded (record w { clients = ys }) NoCell) (sym (ap (λ (x : Client). set xs j x) keep ∙ set-same xs j c at))
-took-by w xs j k p c new took.Stale to at keep = ap (λ (ys : List Client). discarded (record w { clients = ys }) Stale) (sym (ap (λ (x : Client). set xs j x) keep ∙ set-same xs j c at))
-took-by w xs j k p c new took.Unused to at keep = ap (λ (ys : List Client). discarded (record w { clients = ys }) Unused) (sym (ap (λ (x : Client). set xs j x) keep ∙ set-same xs j c at))
+took-by w xs j k p c new took.NoCell to at keep = ap (λ (ys : List Client). discarded (record w { clients = ys }) why.NoCell) (sym (ap (λ (x : Client). set xs j x) keep ∙ set-same xs j c at))
+took-by w xs j k p c new took.Stale to at keep = ap (λ (ys : List Client). discarded (record w { clients = ys }) why.Stale) (sym (ap (λ (x : Client). set xs j x) keep ∙ set-same xs j c at))
+took-by w xs j k p c new took.Unused to at keep = ap (λ (ys : List Client). discarded (record w { clients = ys }) why.Unused) (sym (ap (λ (x : Client). set xs j x) keep ∙ set-same xs j c at))
 took-by w xs j k p c new (took.Returned signal) to at keep = ap (λ (i : ℕ). took_in (record w { clients = set xs i new }) k p (took.Returned signal)) (sym to)
 
 pub server_takes-room : (w : World) (k : ℕ) (p : Packet) → nat_lt (length w.server.ready) ready_cells ≡ true → server_takes w k p ≡ record { world = record w { server = record w.server { ready = w.server.ready ++ p ∷ [] } }; acts = Readies k ∷ [] }
 unfolding server_takes
 server_takes-room w k p h = cond-true _ _ _ h
 
-pub server_takes-full : (w : World) (k : ℕ) (p : Packet) → nat_lt (length w.server.ready) ready_cells ≡ false → server_takes w k p ≡ discarded w NoRoom
+pub server_takes-full : (w : World) (k : ℕ) (p : Packet) → nat_lt (length w.server.ready) ready_cells ≡ false → server_takes w k p ≡ discarded w why.NoRoom
 unfolding server_takes
 server_takes-full w k p h = cond-false _ _ _ h
 

@@ -4,7 +4,8 @@ use Rattle.rpc_header.specs.declared.Activity.{Activity}
 use Rattle.call_rules.specs.Packet.{Packet}
 use Rattle.replay_model.specs.declared.event.CallWord.{CallWord}
 use Rattle.replay_model.specs.Service.{arguments_of}
-use Rattle.replay_model.specs.Record.{Start, Starts, Sends, TooFast, Hears, Returns, NoCell, Stale, Unused}
+use Rattle.replay_model.specs.Record.{Start, Starts, Sends, TooFast, Hears, Returns}
+use Rattle.replay_model.specs.declared.discard.Discard.TheVariants as why
 use Rattle.replay_model.specs.World.{World, Client, Line}
 use Rattle.replay_model.specs.Step.{Outcome, impossible, discarded, with_client, with_packet, started_caller}
 use Rattle.replay_world.specs.declared.client.Called.{Called}
@@ -42,9 +43,9 @@ KeepsImpossible _ old new = Unit {0}
 
 -- the outcome that a client's answer to a packet stands for; c is the client after it
 abbrev pub took_outcome : World → (number : ℕ) → Packet → Client → Took → Outcome
-took_outcome w k p c took.NoCell = discarded w NoCell
-took_outcome w k p c took.Stale = discarded w Stale
-took_outcome w k p c took.Unused = discarded w Unused
+took_outcome w k p c took.NoCell = discarded w why.NoCell
+took_outcome w k p c took.Stale = discarded w why.Stale
+took_outcome w k p c took.Unused = discarded w why.Unused
 took_outcome w k p c (took.Returned signal) =
     record {
       world = with_client w p.to c;
@@ -58,9 +59,9 @@ KeepsMissed _ old new = new ≡ old
 
 -- the same, in the world after it
 abbrev pub took_in : World → (number : ℕ) → Packet → Took → Outcome
-took_in w k p took.NoCell = discarded w NoCell
-took_in w k p took.Stale = discarded w Stale
-took_in w k p took.Unused = discarded w Unused
+took_in w k p took.NoCell = discarded w why.NoCell
+took_in w k p took.Stale = discarded w why.Stale
+took_in w k p took.Unused = discarded w why.Unused
 took_in w k p (took.Returned signal) =
     record {
       world = w;

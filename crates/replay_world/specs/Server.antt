@@ -2,7 +2,7 @@
 use Rattle.std.specs.Prelude.{◌≡◌, ℕ, ◌+◌, List, [], ◌∷◌, length, Option, Some, None, unwrap_or}
 use Rattle.call_rules.specs.Packet.{Packet}
 use Rattle.call_rules.specs.Entry.{Entry, Empty}
-use Rattle.call_rules.specs.Worker.{Step, Run, Answer, drops, on_idle, on_claimed, on_ran, run_of, reply_packet, Full}
+use Rattle.call_rules.specs.Worker.{Step, Run, Answer, drops, on_idle, on_claimed, on_ran, run_of, reply_packet}
 use Rattle.call_rules.specs.Worker as rules
 use Rattle.replay_model.specs.Record.{Idles, Works, HasRun, Sends}
 use Rattle.replay_model.specs.World.{World, Server, entry_at, with_entry}
@@ -11,7 +11,9 @@ use Rattle.replay_model.specs.Step.{Outcome, impossible, with_packet}
 use Rattle.replay_world.specs.declared.server.Worked.{Worked}
 use Rattle.replay_world.specs.declared.server.Worked.TheVariants as worked
 use Rattle.replay_lines.specs.Digests.{run_digest}
-use Rattle.replay_lines.specs.Did.{did_of}
+use Rattle.call_rules.specs.declared.worker.Did.{Did}
+use Rattle.call_rules.specs.declared.worker.Did.TheVariants as did
+use Rattle.call_rules.specs.declared.worker.Unfit.TheVariants as unfit
 
 -- the entry of a packet's activity
 abbrev pub entry_in : Server → Packet → Entry
@@ -19,12 +21,12 @@ entry_in s p = unwrap_or (entry_at s.entries p.header.call.activity) Empty
 
 -- the step of an idle worker with a packet, by the entry of the packet's activity
 abbrev pub claim_step : Option Entry → Packet → Step
-claim_step None p = drops Empty Full
+claim_step None p = drops Empty unfit.Full
 claim_step (Some e) p = on_idle p e
 
 -- a step for a call of this number, in which the worker did that
-abbrev pub IsStep : Worked → ℕ → rules.Did → Type 0
-IsStep (worked.Step n d) number did = (n ≡ number) × (did_of d ≡ did)
+abbrev pub IsStep : Worked → ℕ → Did → Type 0
+IsStep (worked.Step n d) number did = (n ≡ number) × (d ≡ did)
 IsStep _ number did = ⊥
 
 -- a run of a body, by its digests
@@ -68,14 +70,14 @@ StepsFrom (rules.Ran p answer) old new after did = Replied p answer old new afte
 abbrev pub WorksAs : World → (who : ℕ) → Server → Worked → Outcome → Type 0
 WorksAs w who s worked.Impossible o = o ≡ impossible w
 WorksAs w who s worked.Idle o = o ≡ record { world = w; acts = Idles who ∷ [] }
-WorksAs w who s (worked.Step n did) o = o ≡ record { world = record w { server = s }; acts = Works who n (did_of did) ∷ [] }
+WorksAs w who s (worked.Step n did) o = o ≡ record { world = record w { server = s }; acts = Works who n did ∷ [] }
 WorksAs w who s (worked.Runs line) o =
     (run : Run) × (line ≡ run_digest run)
-    × (o ≡ record { world = record w { server = s }; acts = Works who run.call.number rules.Runs ∷ HasRun run ∷ [] })
+    × (o ≡ record { world = record w { server = s }; acts = Works who run.call.number did.Runs ∷ HasRun run ∷ [] })
 WorksAs w who s (worked.Replies p) o =
     o ≡ record {
       world = with_packet (record w { server = s }) p;
-      acts = Works who p.header.call.number rules.Replies ∷ Sends (length w.bag + 1) p ∷ [];
+      acts = Works who p.header.call.number did.Replies ∷ Sends (length w.bag + 1) p ∷ [];
     }
 
 -- a worker that does nothing changes nothing

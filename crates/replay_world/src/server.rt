@@ -6,14 +6,13 @@ ghost use Rattle.call_rules.specs.Worker as rules;
 ghost use Rattle.replay_model.specs.World as model;
 ghost use Rattle.replay_model.specs.World.{World, numbered};
 ghost use Rattle.replay_model.specs.Step as step;
-ghost use Rattle.replay_world.specs.Entry.{word_of_word};
-ghost use Rattle.replay_lines.specs.Did.{unfit_of};
 
 use crate::client::CLIENTS;
-use crate::entry::{Entry, Word};
+use crate::entry::Entry;
 use crate::service::{Answer, serve};
 use crate::worker::{Worker, WorkerState, unfit_for};
-use replay_lines::{Did, RunLine, Unfit};
+use call_rules::{Did, Seen, Unfit, judge};
+use replay_lines::RunLine;
 use replay_packets::{Arrived, Outgoing, Packet};
 use rpc_header::{Activity, Header, MAX_DATA};
 use script_text::{FIRST_CLIENT, LAST_CLIENT, LAST_PROCESS, LAST_WORKER};
@@ -197,10 +196,10 @@ impl ServerMachine {
     {
         let call = packet.header().call;
         let number = call.number.value;
-        let Some(seen) = self.word(call.activity) else {
+        let Some(seen) = self.seen(call.activity) else {
             return dropped(number, Unfit::Full);
         };
-        match unfit_for(seen.judge(packet.header())) {
+        match unfit_for(judge(seen, packet.header())) {
             Some(why) => dropped(number, why),
             None => {
                 let state = WorkerState::Claimed {
@@ -219,14 +218,14 @@ impl ServerMachine {
     }
 
     /// A worker that has claimed its packet has the entry run it, unless the entry has changed since.
-    fn admit(&mut self, carrier: Packet, seen: Word) -> (WorkerState, Worked)
-        ensures step { Steps (rules.on_claimed carrier (word_of_word seen) (entry_in self.old carrier)) carrier self.old self.new
+    fn admit(&mut self, carrier: Packet, seen: Seen) -> (WorkerState, Worked)
+        ensures step { Steps (rules.on_claimed carrier (entry.word_seen seen) (entry_in self.old carrier)) carrier self.old self.new
             (worker_of result.0) result.1 }
         ensures workers { self.new.workers ≡ self.old.workers }
     {
         let call = carrier.header().call;
         let number = call.number.value;
-        if !self.word_or_empty(call.activity).is_same(seen) {
+        if !self.seen_or_empty(call.activity).is_same(seen) {
             return dropped(number, Unfit::Lost);
         }
         self.set_entry(call.activity, Entry::running(call.number));
@@ -275,25 +274,25 @@ impl ServerMachine {
     }
 
     /// What a worker sees of an activity's entry, where there is one.
-    fn word(&self, activity: Activity) -> Option<Word>
+    fn seen(&self, activity: Activity) -> Option<Seen>
         ensures { MatchOption result (model.entry_at self.now.entries activity ≡ None)
-            (λ word. (e : entry.Entry) × (model.entry_at self.now.entries activity ≡ Some e) × (word_of_word word ≡ entry.word_of e)) }
+            (λ seen. (e : entry.Entry) × (model.entry_at self.now.entries activity ≡ Some e) × (entry.word_seen seen ≡ entry.word_of e)) }
     {
         let place = entry_place(activity)?;
         if place >= self.entries.len() {
             return None;
         }
         let entry = &self.entries[place];
-        Some(entry.word())
+        Some(entry.seen())
     }
 
     /// What a worker sees of an activity's entry, which is empty where there is none.
-    fn word_or_empty(&self, activity: Activity) -> Word
-        ensures { word_of_word result ≡ entry.word_of (unwrap_or (model.entry_at self.now.entries activity) entry.Empty) }
+    fn seen_or_empty(&self, activity: Activity) -> Seen
+        ensures { entry.word_seen result ≡ entry.word_of (unwrap_or (model.entry_at self.now.entries activity) entry.Empty) }
     {
-        match self.word(activity) {
-            Some(word) => word,
-            None => Word::NONE,
+        match self.seen(activity) {
+            Some(seen) => seen,
+            None => Seen::EMPTY,
         }
     }
 
@@ -315,7 +314,7 @@ ghost use Rattle.replay_world.specs.Server.{IsStep};
 /// What a worker is left with that drops its packet.
 fn dropped(number: u64, why: Unfit) -> (WorkerState, Worked)
     ensures state { worker_of result.0 ≡ rules.Resting }
-    ensures step { IsStep result.1 number (rules.Drops (unfit_of why)) }
+    ensures step { IsStep result.1 number (Did.Drops why) }
 {
     let worked = Worked::Step {
         number,

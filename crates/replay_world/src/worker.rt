@@ -4,12 +4,9 @@ ghost use Rattle.std.specs.Prelude.{◌≡◌, MatchOption};
 ghost use Rattle.call_rules.specs.Packet.{Packet};
 ghost use Rattle.call_rules.specs.Entry as entry;
 ghost use Rattle.call_rules.specs.Worker as rules;
-ghost use Rattle.replay_world.specs.Entry.{judged_of};
-ghost use Rattle.replay_lines.specs.Did.{unfit_of};
 
-use crate::entry::{Judged, Word};
 use crate::service::Answer;
-use replay_lines::Unfit;
+use call_rules::{Judged, Seen, Unfit};
 use replay_packets::Packet;
 use std::marker::Model;
 
@@ -17,8 +14,8 @@ use std::marker::Model;
 #[derive(Drop)]
 pub enum WorkerState {
     Idle,
-    /// It has seen this word of the entry.
-    Claimed { carrier: Packet, seen: Word },
+    /// It has seen this of the entry.
+    Claimed { carrier: Packet, seen: Seen },
     Admitted(Packet),
     Ran { carrier: Packet, answer: Answer },
 }
@@ -59,8 +56,8 @@ impl Worker {
 
 /// Why a packet that is judged so is dropped, or `None` where it is admitted.
 pub fn unfit_for(judged: Judged) -> Option<Unfit>
-    ensures { MatchOption result (judged_of judged ≡ entry.Admit)
-        (λ why. (p : Packet) (e : entry.Entry) → rules.on_judged (judged_of judged) p e ≡ rules.drops e (unfit_of why)) }
+    ensures { MatchOption result (judged ≡ Judged.Admit)
+        (λ why. (p : Packet) (e : entry.Entry) → rules.on_judged judged p e ≡ rules.drops e why) }
 {
     match judged {
         Judged::Admit => None,
@@ -70,6 +67,6 @@ pub fn unfit_for(judged: Judged) -> Option<Unfit>
         Judged::Skipped => Some(Unfit::Skipped),
         Judged::Same => Some(Unfit::Same),
         // What acknowledges, gathers and sends again comes later.
-        Judged::Ack | Judged::Begin | Judged::Fetch => Some(Unfit::Same),
+        Judged::Ack | Judged::Begin | Judged::More | Judged::Fetch => Some(Unfit::Same),
     }
 }

@@ -17,10 +17,11 @@ ghost use Rattle.replay_world.specs.Played.{world_with, Keeps, Plays};
 use crate::client::{CLIENTS, Called, ClientMachine};
 use crate::delivery::{hand_over, tell};
 use crate::server::{ServerMachine, Worked};
+use call_rules::Did;
 use ff_io::Station;
 use replay_lines::{
-    Counts, Did, RunLine, put_end, put_frame, put_idle, put_impossible, put_packet, put_runs,
-    put_start, put_too_fast, put_work,
+    Counts, RunLine, put_end, put_frame, put_idle, put_impossible, put_packet, put_runs, put_start,
+    put_too_fast, put_work,
 };
 use replay_model::{CallWord, Event};
 use replay_packets::{Outgoing, Sent};

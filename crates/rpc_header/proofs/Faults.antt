@@ -1,25 +1,68 @@
 -- What the first fault that applies says of reading.
-use Rattle.std.proofs.Common.{◌≡◌, ◌<◌, ◌-◌, List, ℕ, length, drop, take, Option, Some, None, nat_lt, Bool, true, false, if◌then◌else◌, ap, ◌∙◌, arith, refl, sym, rules}
+use Rattle.std.proofs.Common.{◌≡◌, ◌<◌, ◌≤◌, ◌-◌, List, ◌++◌, ℕ, length, drop, take, Option, Some, None, nat_lt, Bool, true, false, if◌then◌else◌, ap, ◌∙◌, arith, refl, sym, rules}
+use Rattle.std.specs.List.{find}
+use Rattle.std.specs.Option.{option_or}
+use Rattle.std.proofs.lemmas.Bool.{le-ltb}
 use Rattle.std.proofs.lemmas.List.{take_all, length-drop}
+use Rattle.std.proofs.lemmas.List.Folds.{find-append}
 use Rattle.rpc_header.specs.declared.Header.{Header}
 use Rattle.rpc_header.specs.declared.HeaderFault.{HeaderFault}
 use Rattle.rpc_header.specs.declared.HeaderFault.TheVariants as fault
-use Rattle.rpc_header.specs.Reading.{Accepted, Refused, applies, first_fault_from, header_in, read_of, read_or}
+use Rattle.rpc_header.specs.Reading.{Accepted, Refused, applies, faults, front_faults, back_faults, piece_faults, first_fault, header_in, read_of, read_or}
 
 -- fewer than 32 bytes are refused first
 pub short_read : (xs : List ℕ) → length xs < 32 → read_of xs ≡ Refused fault.Short
-unfolding read_of applies
+unfolding read_of applies first_fault
 short_read xs h = let e : nat_lt (length xs) 32 ≡ true = search rules in rw e refl
 
--- where a fault applies, the first one is given
-pub refused_read : (xs : List ℕ) (f : HeaderFault) → first_fault_from 0 xs ≡ Some f → read_of xs ≡ Refused f
-unfolding read_of first_fault_from
-refused_read xs f first = ap (read_or xs) first
+-- with 32 bytes and more the other faults are looked for
+long_enough : (xs : List ℕ) → 32 ≤ length xs → first_fault faults xs ≡ first_fault (front_faults ++ back_faults ++ piece_faults) xs
+unfolding first_fault applies
+long_enough xs h = let e : nat_lt (length xs) 32 ≡ false = le-ltb (length xs) 32 h in rw e refl
+
+-- among two rows of faults, one of the second is found where none of the first is
+found_in_first : (a b : List HeaderFault) (xs : List ℕ) (f : HeaderFault) → first_fault a xs ≡ Some f → first_fault (a ++ b) xs ≡ Some f
+unfolding first_fault
+found_in_first a b xs f e = find-append (applies xs) a b ∙ ap (λ (o : Option HeaderFault). option_or o (find (applies xs) b)) e
+
+none_in_first : (a b : List HeaderFault) (xs : List ℕ) → first_fault a xs ≡ None → first_fault (a ++ b) xs ≡ first_fault b xs
+unfolding first_fault
+none_in_first a b xs e = find-append (applies xs) a b ∙ ap (λ (o : Option HeaderFault). option_or o (find (applies xs) b)) e
+
+refused : (xs : List ℕ) (f : HeaderFault) → first_fault faults xs ≡ Some f → read_of xs ≡ Refused f
+unfolding read_of
+refused xs f first = ap (read_or xs) first
+
+-- where a fault applies, the first one is given: it is in the first row of faults, or in a later one behind none
+pub refused_front : (xs : List ℕ) (f : HeaderFault) → 32 ≤ length xs → first_fault front_faults xs ≡ Some f → read_of xs ≡ Refused f
+refused_front xs f long front =
+    refused xs f (long_enough xs long ∙ found_in_first front_faults (back_faults ++ piece_faults) xs f front)
+
+pub refused_back : (xs : List ℕ) (f : HeaderFault) → 32 ≤ length xs → first_fault front_faults xs ≡ None
+    → first_fault back_faults xs ≡ Some f → read_of xs ≡ Refused f
+refused_back xs f long front back =
+    refused xs f
+    (long_enough xs long ∙ none_in_first front_faults (back_faults ++ piece_faults) xs front
+    ∙ found_in_first back_faults piece_faults xs f back)
+
+pub refused_piece : (xs : List ℕ) (f : HeaderFault) → 32 ≤ length xs → first_fault front_faults xs ≡ None
+    → first_fault back_faults xs ≡ None → first_fault piece_faults xs ≡ Some f → read_of xs ≡ Refused f
+refused_piece xs f long front back piece =
+    refused xs f
+    (long_enough xs long ∙ none_in_first front_faults (back_faults ++ piece_faults) xs front
+    ∙ none_in_first back_faults piece_faults xs back ∙ piece)
+
+-- where no row has a fault that applies, none applies
+pub none_found : (xs : List ℕ) → 32 ≤ length xs → first_fault front_faults xs ≡ None → first_fault back_faults xs ≡ None
+    → first_fault piece_faults xs ≡ None → first_fault faults xs ≡ None
+none_found xs long front back piece =
+    long_enough xs long ∙ none_in_first front_faults (back_faults ++ piece_faults) xs front
+    ∙ none_in_first back_faults piece_faults xs back ∙ piece
 
 -- where no fault applies, the header and the data are what the bytes say
-pub accepted_read : (xs : List ℕ) (h : Header) → first_fault_from 0 xs ≡ None → header_in xs ≡ h
+pub accepted_read : (xs : List ℕ) (h : Header) → first_fault faults xs ≡ None → header_in xs ≡ h
     → read_of xs ≡ Accepted h (take (length xs - 32) (drop 32 xs))
-unfolding read_of first_fault_from
+unfolding read_of
 accepted_read xs h none same =
     let whole : take (length xs - 32) (drop 32 xs) ≡ drop 32 xs =
     take_all (length xs - 32) (drop 32 xs) (omega (arith, length-drop 32 xs)) in
@@ -44,8 +87,8 @@ not_found : (f : HeaderFault) (b : Bool) (rest : Option HeaderFault)
 not_found f true rest e = absurd (cc)
 not_found f false rest e = (refl, e)
 
-pub no_fault : (xs : List ℕ) → first_fault_from 0 xs ≡ None → NoFault xs
-unfolding first_fault_from
+pub no_fault : (xs : List ℕ) → first_fault faults xs ≡ None → NoFault xs
+unfolding first_fault
 no_fault xs none =
     let a = not_found fault.Short (applies xs fault.Short) _ none in
     let b = not_found fault.Version (applies xs fault.Version) _ a.1 in
@@ -68,22 +111,22 @@ no_fault xs none =
       fragment_number = i.0;
     }
 
-pub none_applies : (xs : List ℕ) → NoFault xs → first_fault_from 0 xs ≡ None
-unfolding first_fault_from
+pub none_applies : (xs : List ℕ) → NoFault xs → first_fault faults xs ≡ None
+unfolding first_fault
 none_applies xs n =
     rw (n.short, n.version, n.kind, n.flags, n.reason, n.data_length, n.reserved, n.short_fragment, n.fragment_number) refl
 
 -- what was accepted: no fault applied, and the header and the data are what the bytes say
 pub record IsAccepted (xs : List ℕ) (h : Header) (d : List ℕ) : Type 0 where
-  pub none : first_fault_from 0 xs ≡ None
+  pub none : first_fault faults xs ≡ None
   pub header : header_in xs ≡ h
   pub rest : drop 32 xs ≡ d
 
-accepted_from : (xs : List ℕ) (h : Header) (d : List ℕ) (found : Option HeaderFault) → first_fault_from 0 xs ≡ found
+accepted_from : (xs : List ℕ) (h : Header) (d : List ℕ) (found : Option HeaderFault) → first_fault faults xs ≡ found
     → read_or xs found ≡ Accepted h d → IsAccepted xs h d
 accepted_from xs h d None first e = record { none = first; header = cc; rest = cc }
 accepted_from xs h d (Some f) first e = absurd (cc)
 
 pub accepted : (xs : List ℕ) (h : Header) (d : List ℕ) → read_of xs ≡ Accepted h d → IsAccepted xs h d
-unfolding read_of first_fault_from
-accepted xs h d e = accepted_from xs h d (first_fault_from 0 xs) refl e
+unfolding read_of
+accepted xs h d e = accepted_from xs h d (first_fault faults xs) refl e

@@ -10,7 +10,7 @@ use Rattle.rpc_header.specs.declared.Kind.TheVariants as kind
 use Rattle.rpc_header.specs.Versions.{fragments_of}
 use Rattle.rpc_header.specs.Fields.{Field, version_field, kind_field, flags_field, reason_field, machine_field, process_field, hint_field, call_number_field, fragment_field, identifier_field, index_field, procedure_field, data_length_field, reserved_field, fields, place_of, kind_number, kind_of, flags_number, has_bit, is_reason}
 use Rattle.rpc_header.specs.Spelling.{FitsFields, HasSpelling, is_short_fragment, spelling, value_in}
-use Rattle.rpc_header.specs.Reading.{Accepted, applies, first_fault_from, header_in, call_number_of, number_at, number_in, read_of, read_or}
+use Rattle.rpc_header.specs.Reading.{Accepted, applies, header_in, call_number_of, number_at, number_in, read_of, read_or}
 use Rattle.rpc_header.proofs.Ranges.{flags_small, kind_small, reason_small}
 use Rattle.rpc_header.proofs.CallNumbers.{same_number}
 use Rattle.rpc_header.proofs.Faults.{NoFault, none_applies}
@@ -166,7 +166,7 @@ spelled_rest h len d = refl
 -- a spelling with its data behind it is read as the header and the data
 pub read_back : (h : Header) (d : List ℕ) → FitsFields h → HasSpelling h (length d)
     → read_of (spelling h (length d) ++ d) ≡ Accepted h d
-unfolding read_of first_fault_from
+unfolding read_of
 read_back h d f s =
     let xs : List ℕ = spelling h (length d) ++ d in
     let said : Says (spelling h (length d) ++ d) h (length d) =

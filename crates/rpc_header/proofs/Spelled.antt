@@ -4,6 +4,8 @@ use Rattle.std.proofs.lemmas.List.{length-drop, drop-drop, take-append-drop}
 use Rattle.std.proofs.lemmas.Bool.{eqb-true, leb-false, ltb-false, or_parts}
 use Rattle.std.proofs.lemmas.Bool.Decides.{nat_tests}
 use Rattle.std.proofs.Math.Nat.{mod-eq_of_lt}
+use Rattle.std.proofs.lemmas.List.Elements.{All-drop}
+use Rattle.item_list.specs.Bytes.{AreBytes}
 use Rattle.byteorder.specs.Endian.{big_bytes, big_number}
 use Rattle.byteorder.specs.Numbers.{big_from-lt}
 use Rattle.rpc_header.specs.declared.Header.{Header}
@@ -12,7 +14,7 @@ use Rattle.rpc_header.specs.Versions.{fragments_of}
 use Rattle.rpc_header.specs.Fields.{kind_number, kind_of, flags_number, has_bit}
 use Rattle.rpc_header.specs.Spelling.{HasSpelling, spelling}
 use Rattle.rpc_header.specs.Reading.{Accepted, applies, header_in, number_at, read_of}
-use Rattle.rpc_header.proofs.Bytes.{AreBytes, bytes-drop, bytes_of_number}
+use Rattle.rpc_header.proofs.Bytes.{small, bytes_of_number}
 use Rattle.rpc_header.proofs.Faults.{NoFault, accepted, no_fault}
 
 -- a field's bytes, and then what stands behind them
@@ -21,7 +23,7 @@ field : (p n v : ℕ) (xs tail : List ℕ) → p + n ≤ length xs → AreBytes 
 unfolding number_at
 field p n v xs tail room h value rest =
     let front : big_bytes n (big_number n (drop p xs)) ≡ take n (drop p xs) =
-    bytes_of_number n (drop p xs) (omega (arith, length-drop p xs)) (bytes-drop p xs h) in
+    bytes_of_number n (drop p xs) (omega (arith, length-drop p xs)) (All-drop (λ byte. byte < 256) p xs h) in
     let behind : drop (p + n) xs ≡ drop n (drop p xs) = sym (drop-drop n p xs) in
     ap (λ (m : ℕ). big_bytes n m ++ tail) value ∙ ap (λ (ys : List ℕ). ys ++ tail) front
     ∙ ap (λ (ys : List ℕ). take n (drop p xs) ++ ys) (rest ∙ behind) ∙ take-append-drop n (drop p xs)
@@ -44,7 +46,7 @@ version_back n e = grind arith
 
 number_back : (xs : List ℕ) → AreBytes xs → number_at 12 6 xs % 2 ^ 48 ≡ number_at 12 6 xs
 unfolding number_at
-number_back xs h = mod-eq_of_lt (big_from-lt 0 6 (drop 12 xs) (bytes-drop 12 xs h).small)
+number_back xs h = mod-eq_of_lt (big_from-lt 0 6 (drop 12 xs) (small (drop 12 xs) (All-drop (λ byte. byte < 256) 12 xs h)))
 
 long_enough : (xs : List ℕ) → NoFault xs → 32 ≤ length xs
 unfolding applies

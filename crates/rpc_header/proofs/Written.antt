@@ -6,6 +6,7 @@ use borrow.Rule.Slice.PartMut.{put_mid, mid_of, post_of, same_len_mid}
 use Rattle.byteorder.specs.Endian.{big_bytes}
 use Rattle.byteorder.specs.Numbers.{length-bytes_high_first}
 use Rattle.rpc_header.specs.declared.Header.{Header}
+use Rattle.rpc_header.specs.Versions.{version_of}
 use Rattle.rpc_header.specs.Fields.{kind_number, flags_number}
 use Rattle.rpc_header.specs.Spelling.{HasSpelling, spelling}
 use Rattle.rpc_header.proofs.Ranges.{flags_small, kind_small, reason_small}
@@ -54,28 +55,29 @@ all_rows : (xs ys : List ℕ) → Front 32 xs ys → xs ≡ ys
 all_rows xs ys f = sym (take_all 32 xs (omega (arith, f.size))) ∙ f.front
 
 -- the rows of a spelling, its first four bytes as numbers
-unfoldable pub rows : (h : Header) (len kind flags reason : ℕ) → List ℕ
-rows h len kind flags reason =
-    ((((((((((1 ∷ kind ∷ flags ∷ reason ∷ []) ++ big_bytes 4 h.call.activity.machine)
+unfoldable pub rows : (h : Header) (len version kind flags reason : ℕ) → List ℕ
+rows h len version kind flags reason =
+    ((((((((((version ∷ kind ∷ flags ∷ reason ∷ []) ++ big_bytes 4 h.call.activity.machine)
     ++ big_bytes 2 h.call.activity.process) ++ big_bytes 2 h.hint) ++ big_bytes 6 h.call.number.value)
     ++ big_bytes 2 h.fragment) ++ big_bytes 4 h.export.identifier) ++ big_bytes 2 h.export.index)
     ++ big_bytes 2 h.procedure) ++ big_bytes 2 len) ++ big_bytes 2 0
 
-rows_of : (h : Header) (len : ℕ) → rows h len (kind_number h.kind % 256) (flags_number h.please_ack h.last % 256) (h.reason % 256) ≡ spelling h len
+rows_of : (h : Header) (len : ℕ) → rows h len (version_of h) (kind_number h.kind % 256) (flags_number h.please_ack h.last % 256) (h.reason % 256) ≡ spelling h len
 unfolding spelling rows
 rows_of h len = refl
 
 -- thirty-two bytes with these rows are the spelling
-pub written : (h : Header) (len kind flags : ℕ) (xs : List ℕ) → HasSpelling h len
-    → kind ≡ kind_number h.kind → flags ≡ flags_number h.please_ack h.last
-    → Front 32 xs (rows h len kind flags h.reason) → xs ≡ spelling h len
-written h len kind flags xs s same_kind same_flags f =
+pub written : (h : Header) (len version kind flags : ℕ) (xs : List ℕ) → HasSpelling h len
+    → version ≡ version_of h → kind ≡ kind_number h.kind → flags ≡ flags_number h.please_ack h.last
+    → Front 32 xs (rows h len version kind flags h.reason) → xs ≡ spelling h len
+written h len version kind flags xs s same_version same_kind same_flags f =
     let kind_mod : kind ≡ kind_number h.kind % 256 = same_kind ∙ sym (mod-eq_of_lt (kind_small h.kind)) in
     let flags_mod : flags ≡ flags_number h.please_ack h.last % 256 =
     same_flags ∙ sym (mod-eq_of_lt (omega (arith, flags_small h.please_ack h.last))) in
     let reason_mod : h.reason ≡ h.reason % 256 = sym (mod-eq_of_lt (reason_small h.kind h.reason s.reason)) in
-    all_rows xs (rows h len kind flags h.reason) f
-    ∙ ap (λ (n : ℕ). rows h len n flags h.reason) kind_mod
-    ∙ ap (λ (n : ℕ). rows h len (kind_number h.kind % 256) n h.reason) flags_mod
-    ∙ ap (λ (n : ℕ). rows h len (kind_number h.kind % 256) (flags_number h.please_ack h.last % 256) n) reason_mod
+    all_rows xs (rows h len version kind flags h.reason) f
+    ∙ ap (λ (n : ℕ). rows h len n kind flags h.reason) same_version
+    ∙ ap (λ (n : ℕ). rows h len (version_of h) n flags h.reason) kind_mod
+    ∙ ap (λ (n : ℕ). rows h len (version_of h) (kind_number h.kind % 256) n h.reason) flags_mod
+    ∙ ap (λ (n : ℕ). rows h len (version_of h) (kind_number h.kind % 256) (flags_number h.please_ack h.last % 256) n) reason_mod
     ∙ rows_of h len

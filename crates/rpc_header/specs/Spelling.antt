@@ -1,9 +1,10 @@
--- How a packet header is spelled: 32 bytes, each number with its highest byte first.
-use Rattle.std.specs.Prelude.{ℕ, ◌≤◌, ◌<◌, ◌^◌, ◌&&◌, not, ◌==◌, Bool, IsTrue, List, flat_map, unwrap_or}
+-- How a packet header is spelled: its fields in their order, each number with its highest byte first.
+use Rattle.std.specs.Prelude.{ℕ, ◌≤◌, ◌<◌, ◌^◌, ◌&&◌, not, ◌==◌, Bool, IsTrue, List, flat_map}
 use Rattle.byteorder.specs.Endian.{big_bytes}
 use Rattle.rpc_header.specs.declared.Header.{Header}
 use Rattle.rpc_header.specs.declared.Kind.{Kind}
-use Rattle.rpc_header.specs.Versions.{fragments_of, version_of}
+use Rattle.rpc_header.specs.Limits.{data_limit}
+use Rattle.rpc_header.specs.Versions.{fragments_in, version_of}
 use Rattle.rpc_header.specs.Fields.{Field, version_field, kind_field, flags_field, reason_field, machine_field, process_field, hint_field, call_number_field, fragment_field, identifier_field, index_field, procedure_field, data_length_field, reserved_field, fields, place_of, kind_number, flags_number, is_reason, has_pieces}
 
 -- what a header with `len` bytes of data behind it says in a field
@@ -27,10 +28,6 @@ value_in h len reserved_field = 0
 unfoldable pub spelling : Header → ℕ → List ℕ
 spelling h len = flat_map (λ field. big_bytes (place_of field).bytes (value_in h len field)) fields
 
--- the most bytes of data behind a header
-abbrev pub data_limit : ℕ
-data_limit = 1440
-
 -- a piece before the last one is full
 abbrev pub is_short_fragment : Kind → Bool → ℕ → Bool
 is_short_fragment kind last len = has_pieces kind && not last && not (len == data_limit)
@@ -40,7 +37,7 @@ pub record HasSpelling (h : Header) (len : ℕ) : Type 0 where
   pub reason : IsTrue (is_reason h.kind h.reason)
   pub data_length : len ≤ data_limit
   pub fullness : IsTrue (not (is_short_fragment h.kind h.last len))
-  pub fragment : h.fragment < unwrap_or (fragments_of (version_of h)) 0
+  pub fragment : h.fragment < fragments_in h
 
 -- each number of a header has room in its field: this holds of every header that a program can make
 pub record FitsFields (h : Header) : Type 0 where

@@ -1,20 +1,19 @@
 // Where each field of a header stands, and what its numbers mean.
 
-ghost use Rattle.std.specs.Prelude.{◌≡◌, ◌==◌, ◌||◌, nat_lt, not};
+ghost use Rattle.std.specs.Prelude.{◌≡◌, ◌+◌, ◌*◌, ◌≤◌, ◌==◌, ◌||◌, ℕ, nat_lt, not};
 ghost use Rattle.rpc_header.specs.Fields.{flags_number, is_reason, kind_number, kind_of};
-ghost use Rattle.rpc_header.specs.Spelling.{data_limit, is_short_fragment};
-ghost use Rattle.rpc_header.specs.Versions.{fragments_of};
+ghost use Rattle.rpc_header.specs.Limits.{data_limit};
+ghost use Rattle.rpc_header.specs.Spelling.{HasSpelling, is_short_fragment};
+ghost use Rattle.rpc_header.specs.Versions;
+ghost use Rattle.rpc_header.specs.Versions.{fragments_of, longest_of};
 
-use crate::Kind;
+use crate::{Header, Kind};
 
 /// The number of bytes of a header.
 pub const HEADER_LEN: usize = 32;
 
 /// The most bytes of data behind a header.
 pub const MAX_DATA: usize = 1440;
-
-/// The version that is spelled.
-pub(crate) const VERSION: u8 = 1;
 
 /// The bit of the flags by which the sender asks for an acknowledgement.
 pub(crate) const PLEASE_ACK: u8 = 1;
@@ -60,6 +59,32 @@ pub(crate) fn fragments_of_version(version: u8) -> Option<u16>
         1 => Some(64),
         _ => None,
     }
+}
+
+/// The version in which a header is spelled: that of every header is 1.
+pub(crate) fn version_of(_header: &Header) -> u8
+    ensures { result ≡ Versions.version_of _header.now }
+{
+    1
+}
+
+/// The number of fragments that a header's version counts.
+pub(crate) fn fragments_in(header: &Header) -> u16
+    ensures { result ≡ Versions.fragments_in header.now }
+{
+    fragments_of_version(version_of(header)).unwrap_or(0)
+}
+
+/// The most bytes that the arguments or the reply of a call have whose packets have this header: full
+/// pieces, as many as the header's version counts.
+pub fn longest(header: &Header) -> usize
+    ensures pieces { result ≡ longest_of header.now }
+    ensures bytes { result ≡ 92160 }
+
+    // The data of a packet with this header lies within it, at its piece's place.
+    ensures each_piece { (len : ℕ) → HasSpelling header.now len → header.now.fragment * MAX_DATA + len ≤ result }
+{
+    usize::from(fragments_in(header)) * MAX_DATA
 }
 
 /// The kind's byte.

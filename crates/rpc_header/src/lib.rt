@@ -2,7 +2,7 @@
 //! which it is written and read.
 #![tactic(auto)]
 
-ghost use Rattle.std.specs.Prelude.{◌≡◌, ◌<◌, ◌≤◌, ◌^◌, ◌↔◌, IfSome, IsNone};
+ghost use Rattle.std.specs.Prelude.{◌≡◌, ◌<◌, ◌≤◌, ◌-◌, ◌^◌, ◌↔◌, Some, IfSome, IsNone, slice_get};
 
 use thiserror::Error;
 
@@ -15,7 +15,7 @@ pub use laws::{
     a_call_number_is_its_value, a_spelling_is_32_bytes, what_is_read_was_written,
     what_is_written_is_read,
 };
-pub use layout::{HEADER_LEN, MAX_DATA};
+pub use layout::{HEADER_LEN, MAX_DATA, longest};
 pub use reading::read_header;
 pub use writing::{fits, write_header};
 
@@ -91,27 +91,40 @@ pub struct Header {
     pub procedure: u16,
 }
 
-/// Why some bytes are no header with its data behind it. Where several apply, the first is given.
+/// Why some bytes are no header with its data behind it, each with its number. Where several apply, the one of
+/// the least number is given.
 #[derive(Clone, Copy, PartialEq, Eq, Debug, Error)]
 pub enum HeaderFault {
     #[error("fewer bytes than a header has")]
-    Short,
+    Short = 1,
     #[error("a version that is not known")]
-    Version,
+    Version = 2,
     #[error("a kind that is not known")]
-    Kind,
+    Kind = 3,
     #[error("flags that are not known")]
-    Flags,
+    Flags = 4,
     #[error("a reason that the kind does not have")]
-    Reason,
+    Reason = 5,
     #[error("a data length other than that of the data, or too large")]
-    Length,
+    Length = 6,
     #[error("reserved bytes that are not zero")]
-    Reserved,
+    Reserved = 7,
     #[error("a piece before the last that is not full")]
-    ShortFragment,
+    ShortFragment = 8,
     #[error("a fragment number out of range")]
-    FragmentNumber,
+    FragmentNumber = 9,
+}
+
+impl HeaderFault {
+    ghost use Rattle.rpc_header.specs.Reading.{faults};
+
+    /// The fault's number: its place among the faults, counted from 1.
+    pub fn number(self) -> u8
+        ensures from_one { 1 ≤ result }
+        ensures place { slice_get faults (result - 1) ≡ Some self }
+    {
+        self as u8
+    }
 }
 
 /// The call number of value `n`, or `None` exactly where `n` has more than 48 bits.

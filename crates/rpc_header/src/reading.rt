@@ -4,7 +4,7 @@ ghost use Rattle.std.specs.Prelude.{◌≡◌, ◌+◌, ◌++◌, ◌≤◌, len
 ghost use Rattle.rpc_header.specs.Fields.{data_length_field, flags_field, has_bit, version_field};
 ghost use Rattle.rpc_header.specs.Spelling.{HasSpelling, spelling};
 ghost use Rattle.rpc_header.specs.Versions.{fragments_of};
-ghost use Rattle.rpc_header.specs.Reading.{Accepted, Refused, call_number_of, first_fault_from, header_in, number_at, number_in, read_of};
+ghost use Rattle.rpc_header.specs.Reading.{Accepted, Refused, call_number_of, back_faults, first_fault, front_faults, header_in, number_at, number_in, piece_faults, read_of};
 
 use crate::layout::{
     HEADER_LEN, LAST, PLEASE_ACK, fragments_of_version, is_short, is_wrong_length, kind_of_byte,
@@ -52,7 +52,7 @@ fn call_number_at(bytes: &[u8], first: usize) -> CallNumber
 
 /// The call that a header names.
 fn call_in(bytes: &[u8]) -> CallId
-    requires { 32 ≤ length bytes.now }
+    requires { HEADER_LEN ≤ length bytes.now }
     ensures { result ≡ (header_in bytes.now).call }
 {
     let activity = Activity {
@@ -67,7 +67,7 @@ fn call_in(bytes: &[u8]) -> CallId
 
 /// The export that a header names.
 fn export_in(bytes: &[u8]) -> Export
-    requires { 32 ≤ length bytes.now }
+    requires { HEADER_LEN ≤ length bytes.now }
     ensures { result ≡ (header_in bytes.now).export }
 {
     Export {
@@ -78,7 +78,7 @@ fn export_in(bytes: &[u8]) -> Export
 
 /// Whether a flag is set.
 fn has_flag(bytes: &[u8], flag: u8) -> bool
-    requires { 32 ≤ length bytes.now }
+    requires { HEADER_LEN ≤ length bytes.now }
     ensures { result ≡ has_bit (number_in bytes.now flags_field) flag }
 {
     byte_at(bytes, place::FLAGS) & flag != 0
@@ -86,7 +86,7 @@ fn has_flag(bytes: &[u8], flag: u8) -> bool
 
 /// The header that the bytes are, where no fault applies to them.
 fn header_of(bytes: &[u8], kind: Kind) -> Header
-    requires room { 32 ≤ length bytes.now }
+    requires room { HEADER_LEN ≤ length bytes.now }
     requires kind { kind ≡ (header_in bytes.now).kind }
     ensures { result ≡ header_in bytes.now }
 {
@@ -105,12 +105,12 @@ fn header_of(bytes: &[u8], kind: Kind) -> Header
 
 /// The number of fragments that the version counts, and the kind; or the first fault that applies
 /// to the first four bytes of a header.
-#[tactic(auto, unfolding(crate::specs::Reading::applies, crate::specs::Reading::first_fault_from))]
+#[tactic(auto, unfolding(crate::specs::Reading::applies, crate::specs::Reading::first_fault))]
 fn fragments_and_kind(bytes: &[u8]) -> Result<(u16, Kind), HeaderFault>
-    requires { 32 ≤ length bytes.now }
+    requires { HEADER_LEN ≤ length bytes.now }
     ensures faults { MatchResult result
-        (λ read. first_fault_from 0 bytes.now ≡ first_fault_from 5 bytes.now)
-        (λ fault. first_fault_from 0 bytes.now ≡ Some fault) }
+        (λ read. first_fault front_faults bytes.now ≡ None)
+        (λ fault. first_fault front_faults bytes.now ≡ Some fault) }
     ensures fragments { IfOk result (λ read. Some read.0 ≡ fragments_of (number_in bytes.now version_field)) }
     ensures kind { IfOk result (λ read. read.1 ≡ (header_in bytes.now).kind) }
 {
@@ -127,12 +127,12 @@ fn fragments_and_kind(bytes: &[u8]) -> Result<(u16, Kind), HeaderFault>
 }
 
 /// The length of the data, or the first fault that applies to the last four bytes of a header.
-#[tactic(auto, unfolding(crate::specs::Reading::applies, crate::specs::Reading::first_fault_from))]
+#[tactic(auto, unfolding(crate::specs::Reading::applies, crate::specs::Reading::first_fault))]
 fn data_len_of(bytes: &[u8]) -> Result<usize, HeaderFault>
-    requires { 32 ≤ length bytes.now }
+    requires { HEADER_LEN ≤ length bytes.now }
     ensures faults { MatchResult result
-        (λ data_len. first_fault_from 5 bytes.now ≡ first_fault_from 7 bytes.now)
-        (λ fault. first_fault_from 5 bytes.now ≡ Some fault) }
+        (λ data_len. first_fault back_faults bytes.now ≡ None)
+        (λ fault. first_fault back_faults bytes.now ≡ Some fault) }
     ensures data_len { IfOk result (λ data_len. data_len ≡ number_in bytes.now data_length_field) }
 {
     let data_len = u16_at(bytes, place::DATA_LENGTH) as usize;
@@ -146,20 +146,20 @@ fn data_len_of(bytes: &[u8]) -> Result<usize, HeaderFault>
 }
 
 /// Looks for a fault of the fragment: a piece that isn't full, or a number out of range.
-#[tactic(auto, unfolding(crate::specs::Reading::applies, crate::specs::Reading::first_fault_from))]
+#[tactic(auto, unfolding(crate::specs::Reading::applies, crate::specs::Reading::first_fault))]
 fn check_fragment(
     bytes: &[u8],
     fragments: u16,
     kind: Kind,
     data_len: usize,
 ) -> Result<(), HeaderFault>
-    requires room { 32 ≤ length bytes.now }
+    requires room { HEADER_LEN ≤ length bytes.now }
     requires fragments { Some fragments ≡ fragments_of (number_in bytes.now version_field) }
     requires kind { kind ≡ (header_in bytes.now).kind }
     requires data_len { data_len ≡ number_in bytes.now data_length_field }
     ensures { MatchResult result
-        (λ _. first_fault_from 7 bytes.now ≡ None)
-        (λ fault. first_fault_from 7 bytes.now ≡ Some fault) }
+        (λ _. first_fault piece_faults bytes.now ≡ None)
+        (λ fault. first_fault piece_faults bytes.now ≡ Some fault) }
 {
     if is_short(kind, has_flag(bytes, LAST), data_len) {
         return Err(HeaderFault::ShortFragment);
@@ -172,7 +172,7 @@ fn check_fragment(
 
 /// Reads the header at the front of a packet's bytes. Gives it and the data behind it, or the first
 /// fault that applies: exactly a header's one spelling with its data behind it is accepted.
-#[tactic(auto, using(crate::proofs::Faults::short_read, crate::proofs::Faults::refused_read, crate::proofs::Faults::accepted_read))]
+#[tactic(auto, using(crate::proofs::Faults::short_read))]
 pub fn read_header(bytes: &[u8]) -> Result<(Header, &[u8]), HeaderFault>
     ensures read { MatchResult result
         (λ read. read_of bytes.now ≡ Accepted read.0 read.1.now)

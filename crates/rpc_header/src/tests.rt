@@ -68,28 +68,42 @@ fn a_call_with_data_is_written_and_read(rt: HostRuntime) -> Result<(), Fail> {
 }
 
 #[test]
-fn each_fault_is_named(rt: HostRuntime) {
+fn each_fault_is_named_and_numbered(rt: HostRuntime) {
     assert_eq!(rt;
         read_header(&ADD_CALL[..31]).err(),
         Some(HeaderFault::Short)
     );
+    assert_eq!(rt; HeaderFault::Short.number(), 1);
     let changes = [
-        (0, 0x00, HeaderFault::Version),
-        (1, 0x00, HeaderFault::Kind),
-        (1, 0x09, HeaderFault::Kind),
-        (2, 0x04, HeaderFault::Flags),
-        (3, 0x01, HeaderFault::Reason),
-        (29, 0x09, HeaderFault::Length),
-        (31, 0x01, HeaderFault::Reserved),
-        (2, 0x01, HeaderFault::ShortFragment),
-        (18, 0xff, HeaderFault::FragmentNumber),
+        (0, 0x00, HeaderFault::Version, 2),
+        (1, 0x00, HeaderFault::Kind, 3),
+        (1, 0x09, HeaderFault::Kind, 3),
+        (2, 0x04, HeaderFault::Flags, 4),
+        (3, 0x01, HeaderFault::Reason, 5),
+        (29, 0x09, HeaderFault::Length, 6),
+        (31, 0x01, HeaderFault::Reserved, 7),
+        (2, 0x01, HeaderFault::ShortFragment, 8),
+        (18, 0xff, HeaderFault::FragmentNumber, 9),
     ];
-    for (place, byte, fault) in changes {
+    for (place, byte, fault, number) in changes {
         let mut bytes = ADD_CALL;
         assert!(rt; place < 40);
         bytes[place] = byte;
         assert_eq!(rt; read_header(&bytes).err(), Some(fault));
+        assert_eq!(rt; fault.number(), number);
     }
+}
+
+#[test]
+fn the_longest_call_has_sixty_four_full_pieces(rt: HostRuntime) -> Result<(), Fail> {
+    let mut header = call_of(3).ok_or("a call number")?;
+    assert_eq!(rt; longest(&header), 92_160);
+    header.last = false;
+    header.fragment = 63;
+    assert!(rt; fits(&header, 1440));
+    header.fragment = 64;
+    assert!(rt; !fits(&header, 1440));
+    Ok(())
 }
 
 #[test]

@@ -6,7 +6,8 @@ ghost use Rattle.rpc_header.specs.Spelling.{FitsFields, HasSpelling, spelling};
 
 use crate::Header;
 use crate::layout::{
-    MAX_DATA, VERSION, flags_byte, fragments_of_version, is_short, kind_byte, may_give, place,
+    HEADER_LEN, MAX_DATA, flags_byte, fragments_in, is_short, kind_byte, may_give, place,
+    version_of,
 };
 use byteorder::{BigEndian, ByteOrder};
 
@@ -19,11 +20,11 @@ pub fn fits(header: &Header, data_len: usize) -> bool
     may_give(header.kind, header.reason)
         && data_len <= MAX_DATA
         && !is_short(header.kind, header.last, data_len)
-        && fragments_of_version(VERSION).is_some_and(|fragments| header.fragment < fragments)
+        && header.fragment < fragments_in(header)
 }
 
 /// Writes the spelling of a header, for a packet with this many bytes of data behind it.
-pub fn write_header(header: &Header, data_len: usize, into: &mut [u8; 32])
+pub fn write_header(header: &Header, data_len: usize, into: &mut [u8; HEADER_LEN])
     requires { HasSpelling header.now data_len }
     ensures spelled { into.new ≡ spelling header.now data_len }
     ensures reads_back { (d : List ℕ) → length d ≡ data_len → read_of (into.new ++ d) ≡ Accepted header.now d }
@@ -32,12 +33,12 @@ pub fn write_header(header: &Header, data_len: usize, into: &mut [u8; 32])
 }
 
 /// Writes each field of a header at its place.
-fn write_fields(header: Header, data_len: usize, into: &mut [u8; 32])
+fn write_fields(header: Header, data_len: usize, into: &mut [u8; HEADER_LEN])
     requires { HasSpelling header data_len }
     ensures spelled { into.new ≡ spelling header data_len }
     ensures room { FitsFields header }
 {
-    into[place::VERSION] = VERSION;
+    into[place::VERSION] = version_of(&header);
     into[place::KIND] = kind_byte(header.kind);
     into[place::FLAGS] = flags_byte(header.please_ack, header.last);
     into[place::REASON] = header.reason;

@@ -1,24 +1,60 @@
 -- The headers that are written around data, put together.
-use Rattle.std.proofs.Common.{◌≡◌, ℕ, ◌+◌, ◌/◌, ◌%◌, ◌<◌, ◌≤◌, List, ◌++◌, length, take, drop, Ok, refl, sym, ap, ◌∙◌, arith}
-use Rattle.std.proofs.lemmas.List.{length-take, length-drop, drop-drop, take_at, take-append-drop}
-use Rattle.udp_frames.specs.Frame.{ethernet_header, internet_header, udp_header, internet_checksum, udp_checksum, frame, IsMachine}
-use Rattle.udp_frames.specs.Reading.{reads}
+use Rattle.std.proofs.Common.{◌≡◌, ℕ, ◌+◌, ◌-◌, ◌≤◌, List, ◌++◌, length, take, drop, Ok, refl, ap, ◌∙◌, arith}
+use Rattle.std.proofs.lemmas.List.{length-take, length-drop, take_at}
+use Rattle.lane_checksum.specs.PlainSum.{csum, finish_of}
+use Rattle.udp_frames.specs.Frame as written
+use Rattle.udp_frames.specs.Frame.{two_bytes, ethernet_header, internet_header, udp_header, internet_checksum, frame, IsMachine}
+use Rattle.udp_frames.specs.Reading as read
+use Rattle.udp_frames.specs.Reading.{part, udp_datagram, reads}
+use Rattle.udp_frames.specs.Writing.{with_part}
 use Rattle.udp_frames.proofs.Damaged.{written_is_read}
+use Rattle.udp_frames.proofs.WithPart.{then_part, length-part_written}
 
--- the high byte of a number of 16 bits
-pub high_byte : (n : ℕ) → n < 65536 → n / 256 % 256 ≡ n / 256
-high_byte n fits = omega arith
+-- the headers one behind the other, each checksum 0
+unsummed : (from to total udp : ℕ) (old ethernet internet new : List ℕ) → 42 ≤ length old
+    → ethernet ≡ with_part 0 (ethernet_header from to) old
+    → internet ≡ with_part 14 (internet_header from to (length ethernet - 14) 0) ethernet
+    → new ≡ with_part 34 (udp_header (length internet - 34) 0) internet
+    → total ≡ length old - 14 → udp ≡ length old - 34
+    → new ≡ ethernet_header from to ++ internet_header from to total 0 ++ udp_header udp 0 ++ drop 42 old
+unfolding with_part
+unsummed from to total udp old ethernet internet new room e i u total-is udp-is =
+    let ethernet_len : length ethernet ≡ length old = length-part_written 0 (ethernet_header from to) old ethernet e (omega arith) in
+    let total_same : length ethernet - 14 ≡ total = omega arith in
+    let two = then_part 0 14 (ethernet_header from to) (internet_header from to (length ethernet - 14) 0) (internet_header from to total 0) old ethernet internet
+    (ap (λ (n : ℕ). internet_header from to n 0) total_same) e i refl (omega arith) in
+    let internet_len : length internet ≡ length old =
+    length-part_written 0 (ethernet_header from to ++ internet_header from to total 0) old internet two (omega arith) in
+    let udp_same : length internet - 34 ≡ udp = omega arith in
+    then_part 0 34 (ethernet_header from to ++ internet_header from to total 0) (udp_header (length internet - 34) 0) (udp_header udp 0) old internet new
+    (ap (λ (n : ℕ). udp_header n 0) udp_same) two u refl (omega arith)
 
-pub assembled : (from to data_len : ℕ) (old rest ethernet internet udp : List ℕ) → 42 + data_len ≤ length old → rest ≡ drop 42 old →
-    ethernet ≡ ethernet_header from to →
-    internet ≡ internet_header from to (28 + data_len) (internet_checksum from to (28 + data_len)) →
-    udp ≡ udp_header (8 + data_len) (udp_checksum from to (8 + data_len) (take data_len rest)) →
-    ethernet ++ (internet ++ (udp ++ rest)) ≡ frame from to (take data_len (drop 42 old)) ++ drop (42 + data_len) old
-assembled from to data_len old rest ethernet internet udp room rest-is ethernet-is internet-is udp-is =
-    let len : length (take data_len (drop 42 old)) ≡ data_len = omega (arith, length-take data_len (drop 42 old), length-drop 42 old) in
-    let join : take data_len (drop 42 old) ++ drop (42 + data_len) old ≡ drop 42 old =
-    ap (λ (tail : List ℕ). take data_len (drop 42 old) ++ tail) (sym (drop-drop data_len 42 old)) ∙ take-append-drop data_len (drop 42 old) in
-    rw (ethernet-is, internet-is, udp-is, rest-is, len, join) refl
+-- the checksums that were summed in place are those of the frame
+pub assembled : (from to : ℕ) (old ethernet internet udp summed new : List ℕ) (sum checksum udp_sum udp_checksum : ℕ) → 42 ≤ length old
+    → ethernet ≡ with_part 0 (ethernet_header from to) old
+    → internet ≡ with_part 14 (internet_header from to (length ethernet - 14) 0) ethernet
+    → udp ≡ with_part 34 (udp_header (length internet - 34) 0) internet
+    → sum ≡ csum (part 14 20 udp) → checksum ≡ 65535 - sum → summed ≡ with_part 24 (two_bytes checksum) udp
+    → udp_sum ≡ csum (read.pseudo_header summed ++ udp_datagram summed) → udp_checksum ≡ finish_of udp_sum
+    → new ≡ with_part 40 (two_bytes udp_checksum) summed
+    → new ≡ frame from to (drop 42 old)
+unfolding with_part
+assembled from to old ethernet internet udp summed new sum checksum udp_sum udp_checksum room e i u sum-is checksum-is summed-is udp_sum-is udp_checksum-is new-is =
+    let payload : List ℕ = drop 42 old in
+    let total : ℕ = 28 + length payload in
+    let len : ℕ = 8 + length payload in
+    let size : length (drop 42 old) ≡ length old - 42 = length-drop 42 old in
+    let plain : udp ≡ ethernet_header from to ++ internet_header from to total 0 ++ udp_header len 0 ++ payload =
+    unsummed from to total len old ethernet internet udp room e i u (omega arith) (omega arith) in
+    let right : checksum ≡ internet_checksum from to total =
+    checksum-is ∙ ap (λ (n : ℕ). 65535 - n) (sum-is ∙ ap (λ (xs : List ℕ). csum (part 14 20 xs)) plain) in
+    let half : summed ≡ ethernet_header from to ++ internet_header from to total (internet_checksum from to total) ++ udp_header len 0 ++ payload =
+    summed-is ∙ ap (with_part 24 (two_bytes checksum)) plain
+    ∙ ap (λ (n : ℕ). ethernet_header from to ++ internet_header from to total n ++ udp_header len 0 ++ payload) right in
+    let udp_right : udp_checksum ≡ written.udp_checksum from to len payload =
+    udp_checksum-is ∙ ap finish_of (udp_sum-is ∙ ap (λ (xs : List ℕ). csum (read.pseudo_header xs ++ udp_datagram xs)) half) in
+    new-is ∙ ap (with_part 40 (two_bytes udp_checksum)) half
+    ∙ ap (λ (n : ℕ). ethernet_header from to ++ internet_header from to total (internet_checksum from to total) ++ udp_header len n ++ payload) udp_right
 
 -- its receiver reads what was written
 pub assembled_is_read : (from to data_len : ℕ) (old new : List ℕ) → IsMachine from → IsMachine to → 42 + data_len ≤ length old →

@@ -1,22 +1,27 @@
--- A frame with one byte changed, outside its Ethernet source, is refused.
-use Rattle.std.proofs.Common.{◌≡◌, ◌≢◌, ℕ, ◌+◌, ◌-◌, ◌<◌, ◌≤◌, ◌⊎◌, List, ◌++◌, length, get_or, take, drop, refl, sym, ap, subst, ◌∙◌, inl, inr, arith}
+-- A frame with one bit flipped, outside its Ethernet source, is refused.
+use Rattle.std.proofs.Common.{◌≡◌, ◌≢◌, ℕ, ◌+◌, ◌-◌, ◌^◌, ◌<◌, ◌≤◌, ◌⊎◌, List, ◌++◌, length, get_or, take, drop, refl, sym, ap, subst, ◌∙◌, inl, inr, arith}
 use Rattle.std.specs.Prelude.{IfOk}
 use Rattle.std.proofs.lemmas.Bool.{cases_lt}
 use Rattle.std.proofs.lemmas.List.{length-take, length-drop, length-append, get_or-set_same, get_or-set_other, get_or-take, get_or-drop, get_or-append-add, take-set-le, drop-set-lt, drop-set-add, set-append_right}
 use Rattle.std.proofs.Math.ListN.{set}
 use Rattle.std.proofs.Math.Seq.{take-set-lt}
 use Rattle.lane_checksum.specs.PlainSum.{csum}
+use Rattle.udp_frames.specs.Damage.{AreApart}
 use Rattle.udp_frames.specs.Frame.{ethernet_address}
 use Rattle.udp_frames.specs.Reading.{number, part, ethernet_destination, ethernet_type, total_length, internet_header, pseudo_header, udp_datagram, reads}
 use Rattle.udp_frames.proofs.Accepting.{IsFrameFor, IsRefused, refused_not_for_us, refused_not_ip, refused_internet_sum, refused_udp_length, refused_udp_sum}
+use Rattle.udp_frames.proofs.Flipping.{apart_differ}
 use Rattle.udp_frames.proofs.OnesComplement.{csum-set}
 
--- a byte of a text and another in its place
+-- a byte of a text and in its place one that a flipped bit made of it
 pub record Changes (bytes : List ℕ) (place new : ℕ) : Type 0 where
   pub within : place < length bytes
-  pub old_fits : get_or bytes place 0 < 256
-  pub new_fits : new < 256
-  pub differs : new ≢ get_or bytes place 0
+  pub bit : ℕ
+  pub low : bit < 8
+  pub moves : AreApart (2 ^ bit) (get_or bytes place 0) new
+
+differs : (bytes : List ℕ) (place new : ℕ) → Changes bytes place new → new ≢ get_or bytes place 0
+differs bytes place new change = apart_differ change.bit (get_or bytes place 0) new change.moves
 
 -- a number of 16 bits changes with either of its bytes
 number_differs : (bytes : List ℕ) (at place new : ℕ) → Changes bytes place new → (place ≡ at) ⊎ (place ≡ at + 1) → number at (set bytes place new) ≢ number at bytes
@@ -24,13 +29,13 @@ number_differs bytes at place new change (inl high) same =
     let here : get_or (set bytes at new) at 0 ≡ new = get_or-set_same bytes at new 0 (omega (arith, change.within)) in
     let there : get_or (set bytes at new) (at + 1) 0 ≡ get_or bytes (at + 1) 0 = get_or-set_other bytes at (at + 1) new 0 (omega arith) in
     let moved : number at (set bytes at new) ≡ number at bytes = rw high at same in
-    let old : new ≢ get_or bytes at 0 = rw high at change.differs in
+    let old : new ≢ get_or bytes at 0 = (let apart = differs bytes place new change in rw high at apart) in
     old (omega arith)
 number_differs bytes at place new change (inr low) same =
     let here : get_or (set bytes (at + 1) new) (at + 1) 0 ≡ new = get_or-set_same bytes (at + 1) new 0 (omega (arith, change.within)) in
     let there : get_or (set bytes (at + 1) new) at 0 ≡ get_or bytes at 0 = get_or-set_other bytes (at + 1) at new 0 (omega arith) in
     let moved : number at (set bytes (at + 1) new) ≡ number at bytes = rw low at same in
-    let old : new ≢ get_or bytes (at + 1) 0 = rw low at change.differs in
+    let old : new ≢ get_or bytes (at + 1) 0 = (let apart = differs bytes place new change in rw low at apart) in
     old (omega arith)
 
 -- and with no other
@@ -66,14 +71,15 @@ destination_changed bytes me place new is change within same =
     let here : get_or (set (ethernet_destination bytes) place new) place 0 ≡ new = get_or-set_same (ethernet_destination bytes) place new 0 (omega arith) in
     let before : get_or (ethernet_destination bytes) place 0 ≡ get_or bytes place 0 = get_or-take 6 bytes place 0 within in
     let equal : set (ethernet_destination bytes) place new ≡ ethernet_destination bytes = sym moved ∙ same ∙ sym is.for_us in
-    change.differs (sym here ∙ ap (λ (xs : List ℕ). get_or xs place 0) equal ∙ before)
+    differs bytes place new change (sym here ∙ ap (λ (xs : List ℕ). get_or xs place 0) equal ∙ before)
 
 internet_changed : (bytes : List ℕ) (me inner new : ℕ) → IsFrameFor bytes me → Changes bytes (14 + inner) new → inner < 20 → csum (internet_header (set bytes (14 + inner) new)) ≢ 65535
 internet_changed bytes me inner new is change within =
     let before : get_or (internet_header bytes) inner 0 ≡ get_or bytes (14 + inner) 0 = get_or-part bytes 14 20 inner within in
     let len : length (internet_header bytes) ≡ 20 = length-part bytes 14 20 (omega (arith, is.long)) in
     rw (part_changed bytes 14 20 inner new within)
-    (csum-set (internet_header bytes) inner new (omega arith) (omega (arith, change.old_fits)) change.new_fits (λ same. change.differs (same ∙ before)) is.internet_sum)
+    (csum-set (internet_header bytes) inner new change.bit (omega arith) change.low
+    (subst (λ (old : ℕ). AreApart (2 ^ change.bit) old new) (sym before) change.moves) is.internet_sum)
 
 -- a change of the UDP datagram that leaves the pseudo header as it was
 udp_changed : (bytes : List ℕ) (me inner new : ℕ) → IsFrameFor bytes me → Changes bytes (34 + inner) new → pseudo_header (set bytes (34 + inner) new) ≡ pseudo_header bytes →
@@ -89,7 +95,8 @@ udp_changed bytes me inner new is change pseudo =
     get_or-append-add (pseudo_header bytes) (udp_datagram bytes) inner 0 ∙ get_or-drop 34 bytes inner 0 in
     let len : length (pseudo_header bytes ++ udp_datagram bytes) ≡ front + (length bytes - 34) =
     length-append (pseudo_header bytes) (udp_datagram bytes) ∙ ap (λ (n : ℕ). front + n) (length-drop 34 bytes) in
-    let apart = csum-set (pseudo_header bytes ++ udp_datagram bytes) (front + inner) new (omega (arith, change.within)) (omega (arith, change.old_fits)) change.new_fits (λ same. change.differs (same ∙ before)) is.udp_sum in
+    let apart = csum-set (pseudo_header bytes ++ udp_datagram bytes) (front + inner) new change.bit (omega (arith, change.within)) change.low
+    (subst (λ (old : ℕ). AreApart (2 ^ change.bit) old new) (sym before) change.moves) is.udp_sum in
     rw (pseudo, moved, ← whole) apart
 
 -- the pseudo header holds the addresses and the UDP length

@@ -6,4 +6,5 @@ pub mod Faults
 pub mod Flipping
 pub mod OnesComplement
 pub mod Parts
+pub mod WithPart
 pub mod Written

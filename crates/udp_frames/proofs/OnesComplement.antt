@@ -1,8 +1,12 @@
--- What makes a one's complement sum 65535, and that one changed byte keeps it from being so.
-use Rattle.std.proofs.Common.{◌≡◌, ◌≢◌, ℕ, zero, suc, ◌+◌, ◌-◌, ◌*◌, ◌%◌, ◌<◌, ◌⊎◌, List, [], ◌∷◌, length, get_or, refl, sym, inl, inr, add-zero, arith}
-use Rattle.std.proofs.lemmas.Bool.{cases_eq, cases_order, eq-eqb, ne_eqb}
+-- What makes a one's complement sum 65535, and that one flipped bit keeps it from being so.
+use Rattle.std.proofs.Common.{◌≡◌, ◌≢◌, ℕ, zero, suc, ◌+◌, ◌-◌, ◌*◌, ◌%◌, ◌^◌, ◌<◌, ◌≤◌, List, length, get_or, refl, sym, subst, ◌∙◌, inl, inr, arith}
+use Rattle.std.proofs.lemmas.Bool.{cases_eq, eq-eqb, ne_eqb}
+use Rattle.std.proofs.lemmas.Nat.{pow_pos}
+use Rattle.std.proofs.Math.Pow.{pow_mono}
 use Rattle.std.proofs.Math.ListN.{set}
 use Rattle.lane_checksum.specs.PlainSum.{word_total, reduced, csum, finish_of}
+use Rattle.udp_frames.specs.Damage.{AreApart}
+use Rattle.udp_frames.proofs.Flipping.{scale_of, scale-even, scale-odd, word_total-set, apart_remainders}
 
 -- a total above 0 that 65535 divides
 pub reduced-full : (n : ℕ) → 0 < n → n % 65535 ≡ 0 → reduced n ≡ 65535
@@ -53,66 +57,24 @@ finish_of-full (suc m) =
           rw (rest, field) (reduced-full (n + (65535 - n % 65535)) (omega arith) (omega arith))
     ]
 
--- two totals that differ, and by less than 65535
-pub record IsNear (a b : ℕ) : Type 0 where
-  pub gap : ℕ
-  pub above : 0 < gap
-  pub below : gap < 65535
-  pub differ : (b ≡ a + gap) ⊎ (a ≡ b + gap)
-
-pub IsNear-add : (n a b : ℕ) → IsNear a b → IsNear (n + a) (n + b)
-IsNear-add n a b near = record {
-  gap = near.gap;
-  above = near.above;
-  below = near.below;
-  differ = elim near.differ [ inl more ↦ inl (omega (arith, more)) | inr less ↦ inr (omega (arith, less)) ];
-}
-
--- 65535 can't divide both
-pub near_not_full : (a b : ℕ) → IsNear a b → reduced a ≡ 65535 → reduced b ≢ 65535
-near_not_full a b near full_a full_b =
-    let rem_a = full_reduced a full_a in
-    let rem_b = full_reduced b full_b in
-    let gap = near.gap in
-    let above : 0 < gap = near.above in
-    let below : gap < 65535 = near.below in
-    elim near.differ [
-      | inl more ↦ let e : b ≡ a + gap = more in omega arith
-      | inr less ↦ let e : a ≡ b + gap = less in omega arith
+-- the weight of a bit of a byte, in the word: no multiple of 65535
+weight_divides_not : (place bit : ℕ) → bit < 8 → scale_of place * 2 ^ bit % 65535 ≢ 0
+weight_divides_not place bit low divides =
+    let above = pow_pos bit in
+    let below : 2 ^ bit ≤ 2 ^ 7 = pow_mono (let small : bit ≤ 7 = omega arith in small) in
+    elim (cases_eq (place % 2) 0) [
+      | inl even ↦
+          let value : 256 * 2 ^ bit % 65535 ≡ 0 = subst (λ (s : ℕ). s * 2 ^ bit % 65535 ≡ 0) (scale-even place even) divides in
+          absurd (omega (arith, above, below, value))
+      | inr odd ↦
+          let value : 1 * 2 ^ bit % 65535 ≡ 0 = subst (λ (s : ℕ). s * 2 ^ bit % 65535 ≡ 0) (scale-odd place (omega arith)) divides in
+          absurd (omega (arith, above, below, value))
     ]
 
--- one high byte of a word changed
-high_near : (old new low rest : ℕ) → old < 256 → new < 256 → new ≢ old → IsNear (256 * old + low + rest) (256 * new + low + rest)
-high_near old new low rest old_fits new_fits differ =
-    elim (cases_order old new) [
-      | inl same ↦ absurd (differ (sym same))
-      | inr (inl less) ↦ record { gap = 256 * (new - old); above = omega arith; below = omega arith; differ = inl (omega arith) }
-      | inr (inr more) ↦ record { gap = 256 * (old - new); above = omega arith; below = omega arith; differ = inr (omega arith) }
-    ]
-
--- one low byte of a word changed
-low_near : (high old new rest : ℕ) → old < 256 → new < 256 → new ≢ old → IsNear (256 * high + old + rest) (256 * high + new + rest)
-low_near high old new rest old_fits new_fits differ =
-    elim (cases_order old new) [
-      | inl same ↦ absurd (differ (sym same))
-      | inr (inl less) ↦ record { gap = new - old; above = omega arith; below = omega arith; differ = inl (omega arith) }
-      | inr (inr more) ↦ record { gap = old - new; above = omega arith; below = omega arith; differ = inr (omega arith) }
-    ]
-
--- one byte of a text changed: the totals of its words are near
-pub word_total-set : (bytes : List ℕ) (place new : ℕ) → place < length bytes → get_or bytes place 0 < 256 → new < 256 → new ≢ get_or bytes place 0 → IsNear (word_total bytes) (word_total (set bytes place new))
-word_total-set [] place new within fits new_fits differ = absurd (omega arith)
-word_total-set (high ∷ []) zero new within fits new_fits differ =
-    rw (← add-zero (256 * high), ← add-zero (256 * new)) (high_near high new 0 0 fits new_fits differ)
-word_total-set (high ∷ []) (suc place) new within fits new_fits differ = absurd (omega arith)
-word_total-set (high ∷ low ∷ rest) zero new within fits new_fits differ =
-    high_near high new low (word_total rest) fits new_fits differ
-word_total-set (high ∷ low ∷ rest) (suc zero) new within fits new_fits differ =
-    low_near high low new (word_total rest) fits new_fits differ
-word_total-set (high ∷ low ∷ rest) (suc (suc place)) new within fits new_fits differ =
-    IsNear-add (256 * high + low) (word_total rest) (word_total (set rest place new)) (word_total-set rest place new (omega arith) fits new_fits differ)
-
--- a text whose sum is 65535, with one byte changed
-pub csum-set : (bytes : List ℕ) (place new : ℕ) → place < length bytes → get_or bytes place 0 < 256 → new < 256 → new ≢ get_or bytes place 0 → csum bytes ≡ 65535 → csum (set bytes place new) ≢ 65535
-csum-set bytes place new within fits new_fits differ full =
-    near_not_full (word_total bytes) (word_total (set bytes place new)) (word_total-set bytes place new within fits new_fits differ) full
+-- a text whose sum is 65535, with one bit of a byte flipped
+pub csum-set : (bytes : List ℕ) (place new bit : ℕ) → place < length bytes → bit < 8 → AreApart (2 ^ bit) (get_or bytes place 0) new
+    → csum bytes ≡ 65535 → csum (set bytes place new) ≢ 65535
+csum-set bytes place new bit within low moves full same =
+    let apart = word_total-set bytes place new (2 ^ bit) within moves in
+    apart_remainders (scale_of place * 2 ^ bit) (word_total bytes) (word_total (set bytes place new)) apart (weight_divides_not place bit low)
+    (full_reduced (word_total (set bytes place new)) same ∙ sym (full_reduced (word_total bytes) full))

@@ -8,6 +8,23 @@ use Rattle.lane_checksum.specs.PlainSum.{csum, finish_of}
 abbrev pub two_bytes : ℕ → List ℕ
 two_bytes n = n / 256 ∷ n % 256 ∷ []
 
+-- the lengths of the headers
+abbrev pub ethernet_len : ℕ
+ethernet_len = 14
+
+abbrev pub internet_len : ℕ
+internet_len = 20
+
+abbrev pub udp_len : ℕ
+udp_len = 8
+
+abbrev pub headers_len : ℕ
+headers_len = ethernet_len + internet_len + udp_len
+
+-- the most bytes of data in one frame
+abbrev pub largest_payload : ℕ
+largest_payload = 1472
+
 -- 02:00:0a:00:00:m
 abbrev pub ethernet_address : ℕ → List ℕ
 ethernet_address m = 0x02 ∷ 0x00 ∷ 0x0a ∷ 0x00 ∷ 0x00 ∷ m ∷ []
@@ -64,11 +81,11 @@ abbrev pub udp_checksum : (from to udp_length : ℕ) → List ℕ → ℕ
 udp_checksum from to udp_length payload =
     finish_of (csum (pseudo_header from to udp_length ++ udp_header udp_length 0 ++ payload))
 
--- the 42 bytes in front of the data
+-- the bytes in front of the data
 abbrev pub headers : (from to : ℕ) → List ℕ → List ℕ
 headers from to payload =
-    let total_length = 28 + length payload in
-    let udp_length = 8 + length payload in
+    let total_length = internet_len + udp_len + length payload in
+    let udp_length = udp_len + length payload in
     ethernet_header from to
     ++ internet_header from to total_length (internet_checksum from to total_length)
     ++ udp_header udp_length (udp_checksum from to udp_length payload)

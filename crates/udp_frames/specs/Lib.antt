@@ -1,3 +1,4 @@
 pub mod Damage
 pub mod Frame
 pub mod Reading
+pub mod Writing

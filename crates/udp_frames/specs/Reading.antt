@@ -1,9 +1,9 @@
 -- What bytes say as a frame, to one machine: who sent which data, or the first fault. Each field stands where
--- RFC 894, RFC 791 and RFC 768 put it behind an Ethernet header of 14 bytes and an IP header of 20.
+-- RFC 894, RFC 791 and RFC 768 put it behind an Ethernet header and an IP header without options.
 use Rattle.std.specs.Prelude.{◌≡◌, ℕ, ◌+◌, ◌-◌, ◌*◌, ◌/◌, ◌%◌, List, [], ◌∷◌, ◌++◌, length, take, drop, slice_index, Bool, not, ◌&&◌, ◌||◌, ◌==◌, nat_le, if◌then◌else◌, Option, Some, None, Result, Ok, Err}
 use Rattle.std.specs.Str.{bytes_eq}
 use Rattle.lane_checksum.specs.PlainSum.{csum}
-use Rattle.udp_frames.specs.Frame.{ethernet_address, internet_address, port}
+use Rattle.udp_frames.specs.Frame.{ethernet_len, internet_len, udp_len, headers_len, ethernet_address, internet_address, port}
 use Rattle.udp_frames.specs.declared.fault.FrameFault.{FrameFault}
 use Rattle.udp_frames.specs.declared.fault.FrameFault.TheVariants.{Short, NotForUs, NotIp, Version, Options, IpLength, IpFragment, NotUdp, IpChecksum, Address, Port, UdpLength, NoChecksum, UdpChecksum}
 
@@ -70,13 +70,13 @@ udp_checksum = number 40
 
 -- what the two checksums cover
 abbrev pub internet_header : List ℕ → List ℕ
-internet_header = part 14 20
+internet_header = part ethernet_len internet_len
 
 abbrev pub pseudo_header : List ℕ → List ℕ
 pseudo_header bytes = source_address bytes ++ destination_address bytes ++ (0 ∷ 17 ∷ part 38 2 bytes)
 
 abbrev pub udp_datagram : List ℕ → List ℕ
-udp_datagram = drop 34
+udp_datagram = drop (ethernet_len + internet_len)
 
 -- a row for each fault: the test that a frame without it passes
 abbrev pub Checks : Type 0
@@ -99,7 +99,7 @@ abbrev pub internet_checks : List ℕ → ℕ → Checks
 internet_checks bytes me =
     (Version, version bytes == 4)
     ∷ (Options, header_length bytes == 5)
-    ∷ (IpLength, (total_length bytes == length bytes - 14) && nat_le 28 (total_length bytes))
+    ∷ (IpLength, (total_length bytes == length bytes - ethernet_len) && nat_le (internet_len + udp_len) (total_length bytes))
     ∷ (IpFragment, (flags_and_offset bytes == 0) || (flags_and_offset bytes == 0x4000))
     ∷ (NotUdp, protocol bytes == 17)
     ∷ (IpChecksum, csum (internet_header bytes) == 65535)
@@ -109,14 +109,14 @@ internet_checks bytes me =
 abbrev pub udp_checks : List ℕ → Checks
 udp_checks bytes =
     (Port, (source_port bytes == port) && (destination_port bytes == port))
-    ∷ (UdpLength, udp_length bytes == total_length bytes - 20)
+    ∷ (UdpLength, udp_length bytes == total_length bytes - internet_len)
     ∷ (NoChecksum, not (udp_checksum bytes == 0))
     ∷ (UdpChecksum, csum (pseudo_header bytes ++ udp_datagram bytes) == 65535)
     ∷ []
 
 abbrev pub checks : List ℕ → ℕ → Checks
 checks bytes me =
-    (Short, nat_le 42 (length bytes)) ∷ ethernet_checks bytes me ++ internet_checks bytes me ++ udp_checks bytes
+    (Short, nat_le headers_len (length bytes)) ∷ ethernet_checks bytes me ++ internet_checks bytes me ++ udp_checks bytes
 
 -- the fault of the first row whose test fails
 abbrev pub first_fault : Checks → Option FrameFault
@@ -129,7 +129,7 @@ Finds (Ok _) rows = first_fault rows ≡ None
 Finds (Err fault) rows = first_fault rows ≡ Some fault
 
 abbrev pub reads_unless : Option FrameFault → List ℕ → Result Datagram FrameFault
-reads_unless None bytes = Ok (record { sender = source_machine bytes; payload = drop 42 bytes })
+reads_unless None bytes = Ok (record { sender = source_machine bytes; payload = drop headers_len bytes })
 reads_unless (Some fault) bytes = Err fault
 
 -- what these bytes say to machine `me`

@@ -1,54 +1,65 @@
-//! Where the fields of a frame stand that are read, and the values that they have in this network. The Ethernet
-//! header is that of RFC 894, the IP header that of RFC 791 without options, the UDP header that of RFC 768.
+//! Where the fields of a frame stand, and the values that they have in this network. The Ethernet header is that
+//! of RFC 894, the IP header that of RFC 791 without options, the UDP header that of RFC 768.
+
+/// The place of each field's first byte. Frames are written and read by these places.
+pub(crate) mod place {
+    // The Ethernet header.
+    pub const ETHERNET_DESTINATION: usize = 0;
+
+    pub const ETHERNET_SOURCE: usize = 6;
+
+    pub const ETHERNET_TYPE: usize = 12;
+
+    // The IP header.
+    pub const INTERNET_HEADER: usize = 14;
+
+    pub const VERSION_AND_LENGTH: usize = 14;
+
+    pub const TYPE_OF_SERVICE: usize = 15;
+
+    pub const TOTAL_LENGTH: usize = 16;
+
+    pub const IDENTIFICATION: usize = 18;
+
+    pub const FLAGS_AND_OFFSET: usize = 20;
+
+    pub const TIME_TO_LIVE: usize = 22;
+
+    pub const PROTOCOL: usize = 23;
+
+    pub const INTERNET_CHECKSUM: usize = 24;
+
+    pub const SOURCE_ADDRESS: usize = 26;
+
+    pub const SOURCE_MACHINE: usize = 29;
+
+    pub const DESTINATION_ADDRESS: usize = 30;
+
+    // The UDP header, and the data behind it.
+    pub const UDP_HEADER: usize = 34;
+
+    pub const SOURCE_PORT: usize = 34;
+
+    pub const DESTINATION_PORT: usize = 36;
+
+    pub const UDP_LENGTH: usize = 38;
+
+    pub const UDP_CHECKSUM: usize = 40;
+
+    pub const PAYLOAD: usize = 42;
+}
 
 /// The bytes of a frame in front of its payload: the headers of Ethernet, IP and UDP.
-pub const HEADERS_LEN: usize = ETHERNET_LEN + INTERNET_LEN + UDP_LEN;
+pub const HEADERS_LEN: usize = place::PAYLOAD;
 
-// The Ethernet header.
-pub(crate) const ETHERNET_DESTINATION: usize = 0;
+/// The length of an IP header without options.
+pub(crate) const INTERNET_LEN: usize = place::UDP_HEADER - place::INTERNET_HEADER;
 
-pub(crate) const ETHERNET_SOURCE: usize = 6;
+/// The largest length of data in one frame.
+pub const LARGEST_PAYLOAD: usize = 1472;
 
-pub(crate) const ETHERNET_TYPE: usize = 12;
-
-// The IP header.
-pub(crate) const INTERNET_HEADER: usize = 14;
-
-pub(crate) const VERSION_AND_LENGTH: usize = 14;
-
-pub(crate) const TOTAL_LENGTH: usize = 16;
-
-pub(crate) const FLAGS_AND_OFFSET: usize = 20;
-
-pub(crate) const PROTOCOL: usize = 23;
-
-pub(crate) const SOURCE_ADDRESS: usize = 26;
-
-pub(crate) const SOURCE_MACHINE: usize = 29;
-
-pub(crate) const DESTINATION_ADDRESS: usize = 30;
-
-// The UDP header, and the data behind it.
-pub(crate) const UDP_HEADER: usize = 34;
-
-pub(crate) const SOURCE_PORT: usize = 34;
-
-pub(crate) const DESTINATION_PORT: usize = 36;
-
-pub(crate) const UDP_LENGTH: usize = 38;
-
-pub(crate) const UDP_CHECKSUM: usize = 40;
-
-pub(crate) const PAYLOAD: usize = HEADERS_LEN;
-
-// The lengths of the headers, and of what the UDP checksum covers in front of the UDP header.
-pub(crate) const ETHERNET_LEN: usize = 14;
-
-pub(crate) const INTERNET_LEN: usize = 20;
-
-pub(crate) const UDP_LEN: usize = 8;
-
-pub(crate) const PSEUDO_LEN: usize = 12;
+/// The largest length of a frame.
+pub const LARGEST_FRAME: usize = HEADERS_LEN + LARGEST_PAYLOAD;
 
 /// The Ethernet type of an IP datagram.
 pub(crate) const TYPE_IP: u16 = 0x0800;

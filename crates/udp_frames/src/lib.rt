@@ -12,6 +12,6 @@ mod tests;
 mod write;
 
 pub use fault::FrameFault;
-pub use layout::HEADERS_LEN;
+pub use layout::{HEADERS_LEN, LARGEST_FRAME, LARGEST_PAYLOAD};
 pub use read::{Seen, read_frame};
-pub use write::{LARGEST_FRAME, LARGEST_PAYLOAD, write_headers};
+pub use write::write_headers;

@@ -22,13 +22,13 @@ pub fn read_frame(buffer: &[u8], me: Station) -> Result<Seen<'_>, FrameFault>
     ensures seen { IfOk result (λ seen. Reading.reads buffer.now me.machine ≡ Ok (record { sender = seen.from.machine; payload = seen.payload.now })) }
     ensures fault { IfErr result (λ fault. Reading.reads buffer.now me.machine ≡ Err fault) }
 {
-    accept(buffer.len() >= PAYLOAD, FrameFault::Short)?;
+    accept(buffer.len() >= HEADERS_LEN, FrameFault::Short)?;
     check_ethernet(buffer, me)?;
     let from = check_internet(buffer, me)?;
     check_udp(buffer)?;
     Ok(Seen {
         from,
-        payload: &buffer[PAYLOAD..],
+        payload: &buffer[place::PAYLOAD..],
     })
 }
 
@@ -50,51 +50,54 @@ fn number_at(frame: &[u8], place: usize) -> u16
 
 /// Tests the Ethernet header.
 fn check_ethernet(frame: &[u8], me: Station) -> Result<(), FrameFault>
-    requires { 42 ≤ length frame.now }
+    requires { HEADERS_LEN ≤ length frame.now }
     ensures { Reading.Finds result (Reading.ethernet_checks frame.now me.machine) }
 {
-    let destination = &frame[ETHERNET_DESTINATION..ETHERNET_SOURCE];
+    let destination = &frame[place::ETHERNET_DESTINATION..place::ETHERNET_SOURCE];
     let for_us = destination == ethernet_address(me).as_slice();
     accept(for_us, FrameFault::NotForUs)?;
-    let carries_ip = number_at(frame, ETHERNET_TYPE) == TYPE_IP;
+    let carries_ip = number_at(frame, place::ETHERNET_TYPE) == TYPE_IP;
     accept(carries_ip, FrameFault::NotIp)?;
     Ok(())
 }
 
 /// Tests the IP header, and says who sent the frame.
 fn check_internet(frame: &[u8], me: Station) -> Result<Station, FrameFault>
-    requires { 42 ≤ length frame.now }
+    requires { HEADERS_LEN ≤ length frame.now }
     ensures fault { Reading.Finds result (Reading.internet_checks frame.now me.machine) }
     ensures from { IfOk result (λ from. from.machine ≡ Reading.source_machine frame.now) }
 {
-    let version_and_length = frame[VERSION_AND_LENGTH];
+    let version_and_length = frame[place::VERSION_AND_LENGTH];
     accept(version_and_length >> 4 == VERSION_4, FrameFault::Version)?;
     let no_options = version_and_length & 0x0f == HEADER_WORDS;
     accept(no_options, FrameFault::Options)?;
-    let total_length = usize::from(number_at(frame, TOTAL_LENGTH));
-    let complete = total_length == frame.len() - INTERNET_HEADER;
+    let total_length = usize::from(number_at(frame, place::TOTAL_LENGTH));
+    let complete = total_length == frame.len() - place::INTERNET_HEADER;
     accept(complete, FrameFault::IpLength)?;
-    let uncut = matches!(number_at(frame, FLAGS_AND_OFFSET), 0 | DO_NOT_FRAGMENT);
+    let uncut = matches!(
+        number_at(frame, place::FLAGS_AND_OFFSET),
+        0 | DO_NOT_FRAGMENT
+    );
     accept(uncut, FrameFault::IpFragment)?;
-    accept(frame[PROTOCOL] == PROTOCOL_UDP, FrameFault::NotUdp)?;
-    let header = &frame[INTERNET_HEADER..UDP_HEADER];
+    accept(frame[place::PROTOCOL] == PROTOCOL_UDP, FrameFault::NotUdp)?;
+    let header = &frame[place::INTERNET_HEADER..place::UDP_HEADER];
     accept(sum(header) == RIGHT_SUM, FrameFault::IpChecksum)?;
     sender(frame, me).ok_or(FrameFault::Address)
 }
 
 /// The station that an IP header names as its source, if it names `me` as its destination.
 fn sender(frame: &[u8], me: Station) -> Option<Station>
-    requires { 42 ≤ length frame.now }
+    requires { HEADERS_LEN ≤ length frame.now }
     ensures some { is_some result ≡ Reading.is_between_machines frame.now me.machine }
     ensures machine { IfSome result (λ from. from.machine ≡ Reading.source_machine frame.now) }
 {
-    let machine = frame[SOURCE_MACHINE];
+    let machine = frame[place::SOURCE_MACHINE];
     if machine < 1 || machine > 254 {
         return None;
     }
     let from = Station { machine };
-    let source = &frame[SOURCE_ADDRESS..DESTINATION_ADDRESS];
-    let destination = &frame[DESTINATION_ADDRESS..UDP_HEADER];
+    let source = &frame[place::SOURCE_ADDRESS..place::DESTINATION_ADDRESS];
+    let destination = &frame[place::DESTINATION_ADDRESS..place::UDP_HEADER];
     if source == internet_address(from).as_slice()
         && destination == internet_address(me).as_slice()
     {
@@ -106,27 +109,36 @@ fn sender(frame: &[u8], me: Station) -> Option<Station>
 
 /// Tests the UDP header and the data.
 fn check_udp(frame: &[u8]) -> Result<(), FrameFault>
-    requires { 42 ≤ length frame.now }
+    requires { HEADERS_LEN ≤ length frame.now }
     ensures { Reading.Finds result (Reading.udp_checks frame.now) }
 {
-    let ports = number_at(frame, SOURCE_PORT) == PORT && number_at(frame, DESTINATION_PORT) == PORT;
+    let ports = number_at(frame, place::SOURCE_PORT) == PORT
+        && number_at(frame, place::DESTINATION_PORT) == PORT;
     accept(ports, FrameFault::Port)?;
-    let udp_length = usize::from(number_at(frame, UDP_LENGTH));
-    let total_length = usize::from(number_at(frame, TOTAL_LENGTH));
+    let udp_length = usize::from(number_at(frame, place::UDP_LENGTH));
+    let total_length = usize::from(number_at(frame, place::TOTAL_LENGTH));
     let complete = udp_length == total_length.saturating_sub(INTERNET_LEN);
     accept(complete, FrameFault::UdpLength)?;
-    accept(number_at(frame, UDP_CHECKSUM) != 0, FrameFault::NoChecksum)?;
+    accept(
+        number_at(frame, place::UDP_CHECKSUM) != 0,
+        FrameFault::NoChecksum,
+    )?;
     accept(udp_sum(frame) == RIGHT_SUM, FrameFault::UdpChecksum)?;
     Ok(())
 }
 
 /// The sum that the UDP checksum makes right: of the pseudo header, the UDP header and the data.
-fn udp_sum(frame: &[u8]) -> u16
-    requires { 42 ≤ length frame.now }
+pub(crate) fn udp_sum(frame: &[u8]) -> u16
+    requires { HEADERS_LEN ≤ length frame.now }
     ensures { result ≡ csum (Reading.pseudo_header frame.now ++ Reading.udp_datagram frame.now) }
 {
-    let addresses = sum(&frame[SOURCE_ADDRESS..UDP_HEADER]);
-    let protocol_and_length = sum(&[0, PROTOCOL_UDP, frame[UDP_LENGTH], frame[UDP_LENGTH + 1]]);
-    let datagram = sum(&frame[UDP_HEADER..]);
+    let addresses = sum(&frame[place::SOURCE_ADDRESS..place::UDP_HEADER]);
+    let protocol_and_length = sum(&[
+        0,
+        PROTOCOL_UDP,
+        frame[place::UDP_LENGTH],
+        frame[place::UDP_LENGTH + 1],
+    ]);
+    let datagram = sum(&frame[place::UDP_HEADER..]);
     add(add(addresses, protocol_and_length), datagram)
 }

@@ -49,39 +49,41 @@ fn worked_frames_are_read(rt: HostRuntime) -> Result<(), Fail> {
     Ok(())
 }
 
-/// The empty call with these bytes in place of its own, and the fault that it then has.
-const DAMAGES: [(&[(usize, u8)], FrameFault); 17] = [
-    (&[(0, 0x82)], FrameFault::NotForUs),
-    (&[(5, 3)], FrameFault::NotForUs),
-    (&[(12, 0x88)], FrameFault::NotIp),
-    (&[(14, 0xc5)], FrameFault::Version),
-    (&[(14, 0x4d)], FrameFault::Options),
-    (&[(16, 0x80)], FrameFault::IpLength),
-    (&[(20, 0x80)], FrameFault::IpFragment),
+/// The empty call with these bytes in place of its own, and the fault that it then has, with its number.
+const DAMAGES: [(&[(usize, u8)], FrameFault, u8); 17] = [
+    (&[(0, 0x82)], FrameFault::NotForUs, 2),
+    (&[(5, 3)], FrameFault::NotForUs, 2),
+    (&[(12, 0x88)], FrameFault::NotIp, 3),
+    (&[(14, 0xc5)], FrameFault::Version, 4),
+    (&[(14, 0x4d)], FrameFault::Options, 5),
+    (&[(16, 0x80)], FrameFault::IpLength, 6),
+    (&[(20, 0x80)], FrameFault::IpFragment, 7),
     // Do not fragment is no fault, but the checksum is then wrong.
-    (&[(20, 0x40)], FrameFault::IpChecksum),
-    (&[(23, 0x91)], FrameFault::NotUdp),
-    (&[(22, 0x3f)], FrameFault::IpChecksum),
+    (&[(20, 0x40)], FrameFault::IpChecksum, 9),
+    (&[(23, 0x91)], FrameFault::NotUdp, 8),
+    (&[(22, 0x3f)], FrameFault::IpChecksum, 9),
     // Machine 0, with the IP checksum made right.
-    (&[(29, 0), (25, 0xb1)], FrameFault::Address),
+    (&[(29, 0), (25, 0xb1)], FrameFault::Address, 10),
     // A destination that is another machine, likewise.
-    (&[(33, 2), (25, 0xae)], FrameFault::Address),
-    (&[(34, 0x8f)], FrameFault::Port),
-    (&[(36, 0x8f)], FrameFault::Port),
-    (&[(38, 0x80)], FrameFault::UdpLength),
-    (&[(40, 0), (41, 0)], FrameFault::NoChecksum),
-    (&[(73, 1)], FrameFault::UdpChecksum),
+    (&[(33, 2), (25, 0xae)], FrameFault::Address, 10),
+    (&[(34, 0x8f)], FrameFault::Port, 11),
+    (&[(36, 0x8f)], FrameFault::Port, 11),
+    (&[(38, 0x80)], FrameFault::UdpLength, 12),
+    (&[(40, 0), (41, 0)], FrameFault::NoChecksum, 13),
+    (&[(73, 1)], FrameFault::UdpChecksum, 14),
 ];
 
 #[test]
 fn damaged_frames_are_refused(rt: HostRuntime) {
-    for (bytes, fault) in DAMAGES {
+    assert_eq!(rt; FrameFault::Short.number(), 1);
+    for (bytes, fault, number) in DAMAGES {
         let mut frame = EMPTY_CALL;
         for (place, byte) in bytes {
             assert!(rt; *place < 74);
             frame[*place] = *byte;
         }
         assert_eq!(rt; read_frame(&frame, RECEIVER), Err(fault));
+        assert_eq!(rt; fault.number(), number);
     }
     // Its sum is right with the field as it was sent, and without it too.
     let mut without_checksum = CHECKSUM_OF_ZERO;

@@ -1,144 +1,97 @@
 //! The headers of a frame, written around data that stands in place.
-ghost use Rattle.std.specs.Prelude.{◌≡◌, ◌+◌, ◌≤◌, ◌++◌, length, take, drop, Ok};
+ghost use Rattle.std.specs.Prelude.{◌≡◌, ◌+◌, ◌-◌, ◌≤◌, ◌++◌, length, take, drop, Ok};
 ghost use Rattle.udp_frames.specs.Frame;
 ghost use Rattle.udp_frames.specs.Reading;
+ghost use Rattle.udp_frames.specs.Writing.{with_part};
 
 use crate::address::{ethernet_address, internet_address};
 use crate::layout::*;
+use crate::read::udp_sum;
+use byteorder::{ByteOrder, NetworkEndian};
 use ff_io::Station;
-use lane_checksum::{add, finish, sum};
+use lane_checksum::{finish, sum};
 
-/// The largest length of data in one frame.
-pub const LARGEST_PAYLOAD: usize = 1472;
-
-/// The largest length of a frame.
-pub const LARGEST_FRAME: usize = HEADERS_LEN + LARGEST_PAYLOAD;
-
-/// Makes the first `42 + data_len` bytes of `buffer` a frame round the `data_len` bytes from place 42 on.
+/// Makes the first `HEADERS_LEN + data_len` bytes of `buffer` a frame round the `data_len` bytes behind its headers.
 pub fn write_headers(buffer: &mut [u8], from: Station, to: Station, data_len: usize)
     requires fits { data_len ≤ LARGEST_PAYLOAD }
-    requires room { 42 + data_len ≤ length buffer.old }
-    ensures frame { buffer.new ≡ Frame.frame from.machine to.machine (take data_len (drop 42 buffer.old)) ++ drop (42 + data_len) buffer.old }
+    requires room { HEADERS_LEN + data_len ≤ length buffer.old }
+    ensures frame { buffer.new ≡ Frame.frame from.machine to.machine (take data_len (drop HEADERS_LEN buffer.old)) ++ drop (HEADERS_LEN + data_len) buffer.old }
 
     // The receiver of that frame sees the sender and the data.
-    ensures read { Reading.reads (take (42 + data_len) buffer.new) to.machine ≡ Ok (record { sender = from.machine; payload = take data_len (drop 42 buffer.old) }) }
+    ensures read { Reading.reads (take (HEADERS_LEN + data_len) buffer.new) to.machine ≡ Ok (record { sender = from.machine; payload = take data_len (drop HEADERS_LEN buffer.old) }) }
 {
-    let (ethernet, datagram) = buffer.split_at_mut(ETHERNET_LEN);
-    let (internet, udp) = datagram.split_at_mut(INTERNET_LEN);
-    let (header, rest) = udp.split_at_mut(UDP_LEN);
-    let total_length = (INTERNET_LEN + UDP_LEN + data_len) as u16;
-    let udp_length = (UDP_LEN + data_len) as u16;
-    let checksum = udp_checksum(from, to, udp_length, &rest[..data_len]);
-    ethernet.copy_from_slice(&ethernet_header(from, to));
-    internet.copy_from_slice(&summed_internet_header(from, to, total_length));
-    header.copy_from_slice(&udp_header(udp_length, checksum));
+    write_frame(&mut buffer[..HEADERS_LEN + data_len], from, to);
 }
 
-/// The Ethernet header.
-fn ethernet_header(from: Station, to: Station) -> [u8; ETHERNET_LEN]
-    ensures { result ≡ Frame.ethernet_header from.machine to.machine }
+/// Makes the bytes a frame round the data that stands behind the headers.
+fn write_frame(frame: &mut [u8], from: Station, to: Station)
+    requires room { HEADERS_LEN ≤ length frame.old }
+    requires fits { length frame.old ≤ LARGEST_FRAME }
+    ensures { frame.new ≡ Frame.frame from.machine to.machine (drop HEADERS_LEN frame.old) }
 {
-    let [to_0, to_1, to_2, to_3, to_4, to_5] = ethernet_address(to);
-    let [from_0, from_1, from_2, from_3, from_4, from_5] = ethernet_address(from);
-    let [type_high, type_low] = TYPE_IP.to_be_bytes();
-    [
-        to_0, to_1, to_2, to_3, to_4, to_5, from_0, from_1, from_2, from_3, from_4, from_5,
-        type_high, type_low,
-    ]
+    write_ethernet(frame, from, to);
+    write_internet(frame, from, to);
+    write_udp(frame);
+    let internet_checksum = !sum(&frame[place::INTERNET_HEADER..place::UDP_HEADER]);
+    write_number(frame, place::INTERNET_CHECKSUM, internet_checksum);
+    let udp_checksum = finish(udp_sum(frame));
+    write_number(frame, place::UDP_CHECKSUM, udp_checksum);
 }
 
-/// The IP header with this checksum.
-fn internet_header(
-    from: Station,
-    to: Station,
-    total_length: u16,
-    checksum: u16,
-) -> [u8; INTERNET_LEN]
-    ensures { result ≡ Frame.internet_header from.machine to.machine total_length checksum }
+/// Writes bytes at a place.
+fn write_part(frame: &mut [u8], place: usize, part: &[u8])
+    requires { place + length part.now ≤ length frame.old }
+    ensures { frame.new ≡ with_part place part.now frame.old }
 {
-    let [length_high, length_low] = total_length.to_be_bytes();
-    let [checksum_high, checksum_low] = checksum.to_be_bytes();
-    let [from_0, from_1, from_2, from_3] = internet_address(from);
-    let [to_0, to_1, to_2, to_3] = internet_address(to);
-    [
-        VERSION_4 << 4 | HEADER_WORDS,
-        0, // type of service
-        length_high,
-        length_low,
-        0, // identification
-        0,
-        0, // flags and fragment offset
-        0,
-        TIME_TO_LIVE,
-        PROTOCOL_UDP,
-        checksum_high,
-        checksum_low,
-        from_0,
-        from_1,
-        from_2,
-        from_3,
-        to_0,
-        to_1,
-        to_2,
-        to_3,
-    ]
+    frame[place..place + part.len()].copy_from_slice(part);
 }
 
-/// The IP header with the checksum that makes its sum right.
-fn summed_internet_header(from: Station, to: Station, total_length: u16) -> [u8; INTERNET_LEN]
-    ensures { result ≡ Frame.internet_header from.machine to.machine total_length (Frame.internet_checksum from.machine to.machine total_length) }
+/// Writes a number of 16 bits at a place.
+fn write_number(frame: &mut [u8], place: usize, number: u16)
+    requires { place + 2 ≤ length frame.old }
+    ensures { frame.new ≡ with_part place (Frame.two_bytes number) frame.old }
 {
-    let unsummed = internet_header(from, to, total_length, 0);
-    internet_header(from, to, total_length, !sum(&unsummed))
+    NetworkEndian::write_u16(&mut frame[place..], number);
 }
 
-/// The UDP header with this checksum.
-fn udp_header(udp_length: u16, checksum: u16) -> [u8; UDP_LEN]
-    ensures { result ≡ Frame.udp_header udp_length checksum }
+/// Writes the Ethernet header.
+fn write_ethernet(frame: &mut [u8], from: Station, to: Station)
+    requires { HEADERS_LEN ≤ length frame.old }
+    ensures { frame.new ≡ with_part 0 (Frame.ethernet_header from.machine to.machine) frame.old }
 {
-    let [port_high, port_low] = PORT.to_be_bytes();
-    let [length_high, length_low] = udp_length.to_be_bytes();
-    let [checksum_high, checksum_low] = checksum.to_be_bytes();
-    [
-        port_high,
-        port_low,
-        port_high,
-        port_low,
-        length_high,
-        length_low,
-        checksum_high,
-        checksum_low,
-    ]
+    write_part(frame, place::ETHERNET_DESTINATION, &ethernet_address(to));
+    write_part(frame, place::ETHERNET_SOURCE, &ethernet_address(from));
+    write_number(frame, place::ETHERNET_TYPE, TYPE_IP);
 }
 
-/// What the UDP checksum covers in front of the UDP header.
-fn pseudo_header(from: Station, to: Station, udp_length: u16) -> [u8; PSEUDO_LEN]
-    ensures { result ≡ Frame.pseudo_header from.machine to.machine udp_length }
+/// Writes the IP header, with 0 for its checksum.
+fn write_internet(frame: &mut [u8], from: Station, to: Station)
+    requires room { HEADERS_LEN ≤ length frame.old }
+    requires fits { length frame.old ≤ LARGEST_FRAME }
+    ensures { frame.new ≡ with_part Frame.ethernet_len (Frame.internet_header from.machine to.machine (length frame.old - Frame.ethernet_len) 0) frame.old }
 {
-    let [from_0, from_1, from_2, from_3] = internet_address(from);
-    let [to_0, to_1, to_2, to_3] = internet_address(to);
-    let [length_high, length_low] = udp_length.to_be_bytes();
-    [
-        from_0,
-        from_1,
-        from_2,
-        from_3,
-        to_0,
-        to_1,
-        to_2,
-        to_3,
-        0,
-        PROTOCOL_UDP,
-        length_high,
-        length_low,
-    ]
+    let total_length = (frame.len() - place::INTERNET_HEADER) as u16;
+    frame[place::VERSION_AND_LENGTH] = VERSION_4 << 4 | HEADER_WORDS;
+    frame[place::TYPE_OF_SERVICE] = 0;
+    write_number(frame, place::TOTAL_LENGTH, total_length);
+    write_number(frame, place::IDENTIFICATION, 0);
+    write_number(frame, place::FLAGS_AND_OFFSET, 0);
+    frame[place::TIME_TO_LIVE] = TIME_TO_LIVE;
+    frame[place::PROTOCOL] = PROTOCOL_UDP;
+    write_number(frame, place::INTERNET_CHECKSUM, 0);
+    write_part(frame, place::SOURCE_ADDRESS, &internet_address(from));
+    write_part(frame, place::DESTINATION_ADDRESS, &internet_address(to));
 }
 
-/// The checksum of the UDP datagram that carries this data.
-fn udp_checksum(from: Station, to: Station, udp_length: u16, payload: &[u8]) -> u16
-    ensures { result ≡ Frame.udp_checksum from.machine to.machine udp_length payload.now }
+/// Writes the UDP header, with 0 for its checksum.
+fn write_udp(frame: &mut [u8])
+    requires room { HEADERS_LEN ≤ length frame.old }
+    requires fits { length frame.old ≤ LARGEST_FRAME }
+    ensures { frame.new ≡ with_part (Frame.ethernet_len + Frame.internet_len) (Frame.udp_header (length frame.old - (Frame.ethernet_len + Frame.internet_len)) 0) frame.old }
 {
-    let pseudo = sum(&pseudo_header(from, to, udp_length));
-    let header = sum(&udp_header(udp_length, 0));
-    finish(add(add(pseudo, header), sum(payload)))
+    let udp_length = (frame.len() - place::UDP_HEADER) as u16;
+    write_number(frame, place::SOURCE_PORT, PORT);
+    write_number(frame, place::DESTINATION_PORT, PORT);
+    write_number(frame, place::UDP_LENGTH, udp_length);
+    write_number(frame, place::UDP_CHECKSUM, 0);
 }

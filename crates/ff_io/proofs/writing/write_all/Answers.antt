@@ -6,5 +6,5 @@ pub loop-at-preserved : goal.loop-at-preserved
 loop-at-preserved g c = record {
   within = search rules;
   written = Appended-take _ _ _ _ _ _ c.loop-at.invariant.written c.in_ok-at.ensures.appended;
-  count = omega (arith, c.loop-at.invariant.count, c.in_ok-at.ensures.count);
+  still = omega (arith, c.loop-at.invariant.still, c.in_ok-at.ensures.still);
 }

@@ -1,8 +1,6 @@
-use Rattle.std.proofs.Common.{◌≡◌, ℕ, ap}
+use Rattle.std.proofs.Common.{ℕ, ap}
 use Rattle.std.proofs.Math.Nat.{mod-eq_of_lt}
 use Rattle.rpc_header.specs.declared.CallNumber.{CallNumber}
-use Rattle.rpc_header.specs.declared.Header.{Header}
-use Rattle.call_rules.specs.Packet.{Fields}
 use Rattle.replay_model.proofs.laws.fields_are_a_header.Goals as goal
 
 pub returns-clause-of_header : goal.returns-clause-of_header

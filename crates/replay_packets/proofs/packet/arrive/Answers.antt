@@ -1,5 +1,5 @@
 use Rattle.std.proofs.Common.{◌∙◌, sym}
-use Rattle.replay_packets.specs.declared.discard.Discard.TheVariants as why
+use Rattle.replay_model.specs.declared.discard.Discard.TheVariants as why
 use Rattle.replay_packets.proofs.Arrivals.{dropped_by, no_frame, no_header, wrong_kind, foreign, comes}
 use Rattle.replay_packets.proofs.packet.arrive.Goals as goal
 

@@ -6,7 +6,7 @@ use Rattle.rpc_header.proofs.writing.write_fields.Goals as goal
 pub returns-clause-spelled : goal.returns-clause-spelled
 unfolding rows
 returns-clause-spelled c =
-    let first = first_row _ 1 c.kind_byte.result c.flags_byte.result c.args.header.reason c.told-into in
+    let first = first_row _ c.version_of.result c.kind_byte.result c.flags_byte.result c.args.header.reason c.told-into in
     let machine = next_row 4 4 _ _ _ _ first (lit≤ tt) c.write_u32.ensures in
     let process = next_row 8 2 _ _ _ _ machine (lit≤ tt) c.write_u16.ensures in
     let hint = next_row 10 2 _ _ _ _ process (lit≤ tt) c.write_u16-2.ensures in
@@ -17,4 +17,4 @@ returns-clause-spelled c =
     let procedure = next_row 26 2 _ _ _ _ index (lit≤ tt) c.write_u16-5.ensures in
     let data_length = next_row 28 2 c.args.data_len _ _ _ procedure (lit≤ tt) c.write_u16-6.ensures in
     let reserved = next_row 30 2 0 _ _ _ data_length (lit≤ tt) c.write_u16-7.ensures in
-    written c.args.header c.args.data_len _ _ _ c.requires c.kind_byte.ensures c.flags_byte.ensures reserved
+    written c.args.header c.args.data_len _ _ _ _ c.requires c.version_of.ensures c.kind_byte.ensures c.flags_byte.ensures reserved

@@ -2,7 +2,6 @@ use Rattle.std.proofs.Common.{◌≡◌, ℕ, ◌+◌, List, [], ◌∷◌, ◌+
 use Rattle.std.proofs.lemmas.List.{append-nil}
 use Rattle.std.proofs.lemmas.Result.{on_ok_weaker}
 use Rattle.call_rules.specs.Packet.{Packet, Fields}
-use Rattle.call_rules.specs.Worker as rules
 use Rattle.call_rules.specs.Worker.{Run}
 use Rattle.replay_model.specs.Record.{Counts, Impossible, Idles, Works, HasRun, Sends}
 use Rattle.replay_model.specs.Lines.{lines_of_act}
@@ -14,7 +13,7 @@ use Rattle.replay_packets.specs.Sent.{sent_of}
 use Rattle.replay_world.specs.Stored.{Stored}
 use Rattle.replay_world.specs.Played.{Keeps, Plays, world_with}
 use Rattle.replay_world.specs.Server.{WorksAs, KeepsIdle}
-use Rattle.replay_lines.specs.Did.{did_of}
+use Rattle.call_rules.specs.declared.worker.Did.TheVariants as verb
 use Rattle.replay_world.specs.declared.server.Worked.{Worked}
 use Rattle.replay_world.specs.declared.server.Worked.TheVariants as worked
 use Rattle.replay_world.specs.contracts.world.World.{the_view}
@@ -65,7 +64,7 @@ returns-in-Step-clause-played c b r k =
     rw (← c.self.view_is)
     (on_ok_weaker c.put_work.result (λ e.
     plays_as before after (record s { server = new }) r o _ did
-    (plays_one before after (record s { server = new }) b r (Works c.args.worker c.in-Step.number (did_of c.in-Step.did)) e (record { frames = kept.frames; runs = kept.runs; counts = kept.counts }))) c.put_work.ensures)
+    (plays_one before after (record s { server = new }) b r (Works c.args.worker c.in-Step.number c.in-Step.did) e (record { frames = kept.frames; runs = kept.runs; counts = kept.counts }))) c.put_work.ensures)
 
 pub returns-in_ok-push-in-Runs-clause-played : goal.returns-in_ok-push-in-Runs-clause-played
 returns-in_ok-push-in-Runs-clause-played c b r k =
@@ -83,12 +82,12 @@ returns-in_ok-push-in-Runs-clause-played c b r k =
     let same : at c.push.new.self.items c.count_run.new.self ≡ at (s.runs ++ run_digest run ∷ []) (counts_run s.counts) =
     ap (λ (xs : List RunDigest). at xs c.count_run.new.self) (c.in_ok-push-in-Runs.ensures.items ∙ ap (λ (x : RunDigest). s.runs ++ x ∷ []) did.1)
     ∙ ap (at (s.runs ++ run_digest run ∷ [])) c.count_run.ensures in
-    let works : after ≡ before ++ lines_of_act (Works c.args.worker run.call.number rules.Runs) =
-    c.in_ok-put_work-in-Runs.ensures ∙ ap (λ (x : RunDigest). before ++ lines_of_act (Works c.args.worker x.call.number rules.Runs)) line in
+    let works : after ≡ before ++ lines_of_act (Works c.args.worker run.call.number verb.Runs) =
+    c.in_ok-put_work-in-Runs.ensures ∙ ap (λ (x : RunDigest). before ++ lines_of_act (Works c.args.worker x.call.number verb.Runs)) line in
     rw (← c.self.view_is)
     (subst (λ (x : Stored). Plays before after x r o) (sym same)
     (plays_as before after (at (s.runs ++ run_digest run ∷ []) (counts_run s.counts)) r o _ did.2
-    (plays_two before after after (at (s.runs ++ run_digest run ∷ []) (counts_run s.counts)) b r (Works c.args.worker run.call.number rules.Runs) (HasRun run) works (sym (append-nil after))
+    (plays_two before after after (at (s.runs ++ run_digest run ∷ []) (counts_run s.counts)) b r (Works c.args.worker run.call.number verb.Runs) (HasRun run) works (sym (append-nil after))
     (keeps_run (record s { server = new }) b r run (record { frames = kept.frames; runs = kept.runs; counts = kept.counts })))))
 
 pub returns-in_ok-put_work-in-Replies-clause-played : goal.returns-in_ok-put_work-in-Replies-clause-played
@@ -104,12 +103,12 @@ returns-in_ok-put_work-in-Replies-clause-played c b r k =
     let o : Outcome = work_event w c.args.worker (numbered 1 s.server.workers c.args.worker) in
     let did : WorksAs w c.args.worker new (worked.Replies packet) o = subst (λ (d : Worked). WorksAs w c.args.worker new d o) c.in-Replies.is (c.in_ok-work.ensures.outcome w) in
     let s' : Stored = record s { server = new; bag = s.bag ++ sent_of packet ∷ [] } in
-    let works : middle ≡ before ++ lines_of_act (Works c.args.worker packet.header.call.number rules.Replies) =
-    c.in_ok-put_work-in-Replies.ensures ∙ ap (λ (h : Fields). before ++ lines_of_act (Works c.args.worker h.call.number rules.Replies)) c.header.ensures in
+    let works : middle ≡ before ++ lines_of_act (Works c.args.worker packet.header.call.number verb.Replies) =
+    c.in_ok-put_work-in-Replies.ensures ∙ ap (λ (h : Fields). before ++ lines_of_act (Works c.args.worker h.call.number verb.Replies)) c.header.ensures in
     rw (← c.self.view_is)
     (on_ok_both c.send.result (λ q e. subst (λ (x : Stored). Plays before after x r o) (sym q)
     (plays_as before after s' r o _ did
-    (plays_two before middle after s' (b ++ packet ∷ []) r (Works c.args.worker packet.header.call.number rules.Replies) (Sends (length b + 1) packet) works
+    (plays_two before middle after s' (b ++ packet ∷ []) r (Works c.args.worker packet.header.call.number verb.Replies) (Sends (length b + 1) packet) works
     (e ∙ ap (λ (n : ℕ). middle ++ lines_of_act (Sends (n + 1) packet)) (same_count s b r kept))
     (keeps_sent s' (b ++ packet ∷ []) r _ packet
     (keeps_packet (record s { server = new }) b r packet (record { frames = kept.frames; runs = kept.runs; counts = kept.counts }))))))

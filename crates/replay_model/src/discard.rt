@@ -1,7 +1,7 @@
 //! Why a delivery ends.
 
 ghost use Rattle.std.specs.Prelude.{◌≡◌};
-ghost use Rattle.replay_packets.specs.declared.discard.Discard.TheVariants as why;
+ghost use Rattle.replay_model.specs.declared.discard.Discard.TheVariants as why;
 
 use rpc_header::HeaderFault;
 use thiserror::Error;
