@@ -5,6 +5,8 @@
 # the processor's time is taken, and the best run counts; what the program takes to start is measured by the
 # shortest script and left out. It is run by hand and is no part of the gate: a busy machine's times are worth
 # little.
+# Where valgrind is found, the instructions of a line are counted first: for scripts of null calls of 7 lines each, by
+# the difference of two lengths, so that they don't depend on how busy the machine is.
 set -eu
 cd "$(dirname "$0")/.."
 runs=${1:-200}
@@ -37,6 +39,37 @@ for calls in 285 857 2571; do
     wanted="end runs $calls returned $calls signalled 0 failed 0 refused 0"
     [ "$(tail -n 1 "$work/$calls.out")" = "$wanted" ] || { echo "$calls calls: not all returned"; exit 1; }
 done
+
+# calls CALLS: one process calls null again and again; each call is delivered, worked on in four steps, and answered.
+calls() {
+    awk -v calls="$1" '
+        BEGIN {
+            for (made = 0; made < calls; made++) {
+                print "call 2 1 null"
+                print "deliver", 2 * made + 1
+                for (step = 0; step < 4; step++) print "work 1"
+                print "deliver", 2 * made + 2
+            }
+            print "end"
+        }'
+}
+
+# instructions CALLS: of the program on that many null calls.
+instructions() {
+    calls "$1" > "$work/calls"
+    valgrind --tool=callgrind --callgrind-out-file=/dev/null crates/ffrpc/out/ffrpc replay < "$work/calls" 2>&1 > "$work/calls.out" |
+        awk '$2 == "Collected" { print $4 }'
+    wanted="end runs $1 returned $1 signalled 0 failed 0 refused 0"
+    [ "$(tail -n 1 "$work/calls.out")" = "$wanted" ] || { echo "$1 calls: not all returned" >&2; exit 1; }
+}
+
+if command -v valgrind > "$work/valgrind"; then
+    few=$(instructions 1000)
+    many=$(instructions 3000)
+    echo "$(((many - few) / (7 * 2000))) instructions a line"
+else
+    echo "valgrind isn't found: instructions aren't counted"
+fi
 
 python3 - "$runs" "$work" 0 285 857 2571 <<'PYTHON'
 import os, subprocess, sys

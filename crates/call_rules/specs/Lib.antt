@@ -1,4 +1,5 @@
 pub mod Caller
 pub mod Entry
+pub mod Examples
 pub mod Packet
 pub mod Worker

@@ -6,6 +6,7 @@ use Rattle.rpc_header.specs.declared.CallId.{CallId}
 use Rattle.rpc_header.specs.declared.Export.{Export}
 use Rattle.rpc_header.specs.declared.Header.{Header}
 use Rattle.rpc_header.specs.declared.Kind.{Kind}
+use Rattle.rpc_header.specs.Limits.{data_limit}
 
 pub record Call : Type 0 where
   pub activity : Activity
@@ -49,7 +50,7 @@ fields_of h =
 
 -- the most data that one packet carries
 abbrev pub piece_size : ℕ
-piece_size = 1440
+piece_size = data_limit
 
 abbrev pub is_same_activity : Activity → Activity → Bool
 is_same_activity a b = (a.machine == b.machine) && (a.process == b.process)

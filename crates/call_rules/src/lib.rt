@@ -7,6 +7,8 @@
 
 mod entry;
 mod judgement;
+#[cfg(test)]
+mod tests;
 mod worker;
 
 ghost use Rattle.std.specs.Prelude.{◌≡◌, ◌<◌, ◌⊎◌};

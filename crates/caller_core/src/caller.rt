@@ -153,9 +153,7 @@ impl Caller {
     fn is_current(&self, call: CallId) -> bool
         ensures { result ≡ is_same_call (call_of call) (rules.current_call self.now) }
     {
-        call.activity.machine == self.activity.machine
-            && call.activity.process == self.activity.process
-            && call.number.value == self.number.value
+        call.activity == self.activity && call.number == self.number
     }
 
     /// Whether the last piece of the arguments was sent and isn't answered yet.

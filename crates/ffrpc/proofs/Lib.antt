@@ -1,5 +1,5 @@
 pub mod Completeness
-pub mod LineEnds
+pub mod Laws
 pub mod Playing
 pub mod Reading
 pub mod Saying

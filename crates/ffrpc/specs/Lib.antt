@@ -1,3 +1,3 @@
+pub mod Outside
 pub mod Replay
 pub mod Status
-pub mod Steps

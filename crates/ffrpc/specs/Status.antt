@@ -1,6 +1,11 @@
--- The statuses of the program: their numbers, and the line that each ends what was written with.
-use Rattle.std.specs.Prelude.{ℕ, List, [], ◌∷◌, ◌++◌, codes}
+-- The statuses of the program: their numbers, the line that each ends what was written with, and the errors that become one.
+use Rattle.std.specs.Prelude.{ℕ, List, [], ◌∷◌, ◌++◌, codes, ◌==◌, if◌then◌else◌}
 use Rattle.std.specs.Fmt.{decimal}
+use Rattle.std.specs.declared.io.ErrorKind.{ErrorKind}
+use Rattle.std.specs.declared.io.ErrorKind.TheVariants.{OutOfMemory}
+use Rattle.ff_io.specs.declared.reading.ReadAll.{ReadAll}
+use Rattle.ff_io.specs.declared.reading.ReadAll.TheVariants.{Failed, TooLong, Memory}
+use Rattle.script_text.specs.declared.fault.ScriptFault.{ScriptFault}
 use Rattle.ffrpc.specs.declared.status.Status.{Status}
 use Rattle.ffrpc.specs.declared.status.Status.TheVariants as status
 
@@ -31,3 +36,18 @@ fault_line status.CallsFailed = codes "fault CallsFailed" ++ newline
 fault_line status.TooLong = codes "fault TooLong" ++ newline
 fault_line status.ClockFault = codes "fault ClockFault" ++ newline
 fault_line status.NoMemory = codes "fault NoMemory" ++ newline
+
+-- where the words of the program can't be had: one of them is no text, unless memory ran out
+abbrev pub status_of_words : ErrorKind → Status
+status_of_words OutOfMemory = status.NoMemory
+status_of_words _ = status.Usage
+
+-- where the input can't be read to its end
+abbrev pub status_of_reading : ReadAll → Status
+status_of_reading Failed = status.ReadFault
+status_of_reading TooLong = status.TooLong
+status_of_reading Memory = status.NoMemory
+
+-- where its text is no script: the number 0 stands for want of memory
+abbrev pub status_of_text : ScriptFault → Status
+status_of_text fault = if fault.number == 0 then status.NoMemory else status.BadText fault.line fault.number

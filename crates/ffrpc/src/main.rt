@@ -7,9 +7,7 @@ mod replay;
 mod status;
 mod streams;
 
-use command::ffrpc;
-use replay::end_with;
-use status::Status;
+use command::run_words;
 use std::process::ExitCode;
 use std::rt::Env;
 use std::{env, io};
@@ -18,12 +16,7 @@ use streams::{StreamSink, StreamSource};
 fn main(rt: HostRuntime) -> ExitCode {
     let mut source = StreamSource::new(rt.stdin());
     let mut sink = StreamSink::new(rt.stdout());
-    let status = match words_of(&rt) {
-        Ok(words) => ffrpc(rt.alloc(), words.as_slice(), &mut source, &mut sink),
-        Err(error) if error.kind() == io::ErrorKind::OutOfMemory => Status::NoMemory,
-        Err(_) => end_with(&mut sink, Status::Usage),
-    };
-    ExitCode::from(status.number())
+    ExitCode::from(run_words(rt.alloc(), words_of(&rt), &mut source, &mut sink))
 }
 
 /// The words behind the program's name. A word that isn't UTF-8 is an error.
@@ -37,5 +30,7 @@ fn words_of<R: Env + AllocGlobal>(rt: &R) -> io::Result<Vec<String>> {
 
 #[cfg(test)]
 mod rows;
+#[cfg(test)]
+mod stream_tests;
 #[cfg(test)]
 mod tests;

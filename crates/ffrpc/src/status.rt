@@ -2,8 +2,11 @@
 
 ghost use Rattle.std.specs.Prelude.{◌≡◌};
 
-use ff_io::WriteFailed;
+use ff_io::{ReadAll, WriteFailed};
+use script_text::ScriptFault;
 use std::alloc::AllocError;
+use std::io;
+use std::process::ExitCode;
 
 /// How a command ends. Each status has its number, and all but two a line that is written last.
 #[derive(Clone, Copy, PartialEq, Eq, Debug)]
@@ -69,5 +72,60 @@ impl From<WriteFailed> for Status {
 
     fn from(_: WriteFailed) -> Self {
         Status::WriteFault
+    }
+}
+
+impl From<ReadAll> for Status {
+    ghost use Rattle.ffrpc.specs.Status.{status_of_reading};
+
+    ghost from_gives = { λ error s. s ≡ status_of_reading error };
+
+    fn from(error: ReadAll) -> Self {
+        match error {
+            ReadAll::Failed => Status::ReadFault,
+            ReadAll::TooLong => Status::TooLong,
+            ReadAll::Memory => Status::NoMemory,
+        }
+    }
+}
+
+impl From<ScriptFault> for Status {
+    ghost use Rattle.ffrpc.specs.Status.{status_of_text};
+
+    ghost from_gives = { λ fault s. s ≡ status_of_text fault };
+
+    fn from(fault: ScriptFault) -> Self {
+        if fault.number == 0 {
+            Status::NoMemory
+        } else {
+            Status::BadText(fault.line, fault.number)
+        }
+    }
+}
+
+/// Why the words of the program can't be had.
+impl From<io::Error> for Status {
+    ghost use Rattle.std.specs.IoError.{error_kind};
+    ghost use Rattle.ffrpc.specs.Status.{status_of_words};
+
+    ghost from_gives = { λ error s. s ≡ status_of_words (error_kind error) };
+
+    fn from(error: io::Error) -> Self {
+        match error.kind() {
+            io::ErrorKind::OutOfMemory => Status::NoMemory,
+            _ => Status::Usage,
+        }
+    }
+}
+
+/// What the program ends with.
+impl From<Status> for ExitCode {
+    ghost use Rattle.std.specs.Process.{exit_status};
+    ghost use Rattle.ffrpc.specs.Status.{number_of};
+
+    ghost from_gives = { λ status code. exit_status code ≡ number_of status };
+
+    fn from(status: Status) -> Self {
+        ExitCode::from(status.number())
     }
 }

@@ -14,6 +14,9 @@ const EMPTY_CALL: &[u8] =
 const EMPTY_CALL_TRANSCRIPT: &[u8] =
     b"start 2.1 65536\npacket 1 2>1 call 65536/0 -l 0\nready 1\nworker 1 claims 65536\nworker 1 admits 65536\nworker 1 runs 65536\nworker 1 replies 65536\npacket 2 1>2 result 65536/0 -l 0\nreturned 2.1 65536 0:\nrun 1 2.1 65536 null 0: -> 0:\nend runs 1 returned 1 signalled 0 failed 0 refused 0\n";
 
+/// More bytes than a run here writes.
+const ROOM: usize = 65_536;
+
 /// The outside of a run: the input, which reads and writes fail, and the most bytes of one.
 #[derive(Clone, Copy)]
 pub struct Given<'a> {
@@ -52,7 +55,7 @@ pub fn ran(
         most,
     };
     let mut sink = Short {
-        inner: MemorySink::new(failing_writes, Vec::new(alloc)),
+        inner: MemorySink::new(failing_writes, Vec::with_capacity(alloc, ROOM)?),
         most,
     };
     let status = ffrpc(alloc, &all_words, &mut source, &mut sink);
@@ -114,13 +117,13 @@ fn a_sink_that_fails_in_mid_stream_has_a_prefix(rt: HostRuntime) -> Result<(), F
 
 #[test]
 fn one_byte_above_the_limit_is_too_long(rt: HostRuntime) -> Result<(), Fail> {
-    let input = vec![in rt.alloc(); b'\n'; 1_048_577]?;
+    let input = vec![in rt.alloc(); b'#'; 1_048_577]?;
     let (status, written) = ran(rt.alloc(), &["replay"], &never_failing(&input))?;
     assert_eq!(rt; status.number(), 8);
     assert_eq!(rt; written.as_slice(), b"fault TooLong\n".as_slice());
     let (status, written) = ran(rt.alloc(), &["replay"], &never_failing(&input[1..]))?;
     assert_eq!(rt; status.number(), 3);
-    assert_eq!(rt; written.as_slice(), b"fault BadText 1 9\n".as_slice());
+    assert_eq!(rt; written.as_slice(), b"fault BadText 1 7\n".as_slice());
     Ok(())
 }
 
@@ -135,29 +138,45 @@ fn other_words_are_refused(rt: HostRuntime) -> Result<(), Fail> {
     Ok(())
 }
 
+/// How a run over this text ends, and what it has written.
+fn refused(alloc: Global, text: &[u8]) -> Result<(u8, Vec<u8>), AllocError> {
+    let (status, written) = ran(alloc, &["replay"], &never_failing(text))?;
+    Ok((status.number(), written))
+}
+
 #[test]
-fn texts_outside_the_grammar_are_refused(rt: HostRuntime) -> Result<(), Fail> {
-    let table: [&[u8]; 8] = [
-        b"",
-        b"journal\n",
-        b"jurnal\nend\n",
-        b"deliver 01\nend\n",
-        b"end\njournal\n",
-        b"deliver 1\ndeliver 1\nend\n",
-        b"end\r",
-        b"call 2 9 null\nend\n",
+fn a_text_is_refused_at_its_first_fault(rt: HostRuntime) -> Result<(), Fail> {
+    let table: [(&[u8], &str); 6] = [
+        (b"", "fault BadText 1 7\n"),
+        (b"call 2 1 null\ndeliv", "fault BadText 2 1\n"),
+        (b"end\njournal\n", "fault BadText 2 6\n"),
+        (b"deliver 01\nend\n", "fault BadText 1 3\n"),
+        (b"call 2 9 null\nend\n", "fault BadText 1 4\n"),
+        (b"deliver 1\ndeliver 1\nend\n", "fault BadText 2 9\n"),
     ];
-    for text in table {
-        let (status, written) = ran(rt.alloc(), &["replay"], &never_failing(text))?;
-        assert_eq!(rt; status, Status::BadText(1, 9));
-        assert_eq!(rt; written.as_slice(), b"fault BadText 1 9\n".as_slice());
+    for (text, line) in table {
+        let (number, written) = refused(rt.alloc(), text)?;
+        assert_eq!(rt; number, 3);
+        assert_eq!(rt; written.as_slice(), line.as_bytes());
     }
     Ok(())
 }
 
 #[test]
+fn one_line_above_the_limit_is_too_long(rt: HostRuntime) -> Result<(), Fail> {
+    let lines = vec![in rt.alloc(); b'\n'; 20_001]?;
+    let (number, written) = refused(rt.alloc(), &lines)?;
+    assert_eq!(rt; number, 8);
+    assert_eq!(rt; written.as_slice(), b"fault TooLong\n".as_slice());
+    let (number, written) = refused(rt.alloc(), &lines[1..])?;
+    assert_eq!(rt; number, 3);
+    assert_eq!(rt; written.as_slice(), b"fault BadText 20001 7\n".as_slice());
+    Ok(())
+}
+
+#[test]
 fn an_end_alone_is_a_script(rt: HostRuntime) -> Result<(), Fail> {
-    let (status, written) = ran(rt.alloc(), &["replay"], &never_failing(b"end"))?;
+    let (status, written) = ran(rt.alloc(), &["replay"], &never_failing(b"end\n"))?;
     assert_eq!(rt; status, Status::Ok);
     assert_eq!(rt;
         written.as_slice(),

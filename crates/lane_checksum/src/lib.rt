@@ -2,6 +2,7 @@
 #![tactic(auto)]
 
 ghost use Rattle.std.specs.Prelude.{◌≡◌, ℕ, List, ◌∷◌, ◌+◌, ◌/◌, ◌%◌, ◌^◌, ◌<◌, ◌++◌, length, take, replicate};
+ghost use Rattle.lane_checksum.specs.Digests.{digest};
 ghost use Rattle.lane_checksum.specs.PlainSum.{csum, finish_of, reduced};
 
 mod lanes;
@@ -69,6 +70,7 @@ pub struct Digest {
 /// The digest of a text of fewer than 2^32 bytes.
 pub fn digest_of(bytes: &[u8]) -> Digest
     requires { length bytes.now < 2 ^ 32 }
+    ensures digest { result ≡ digest bytes.now }
     ensures len { result.len ≡ length bytes.now }
     ensures head { result.head ≡ take HEAD_LEN (bytes.now ++ replicate HEAD_LEN 0) }
     ensures sum { result.sum ≡ csum bytes.now }

@@ -7,7 +7,8 @@ use Rattle.std.proofs.lemmas.List.Elements.{All-append}
 use Rattle.udp_frames.specs.declared.fault.FrameFault.{FrameFault}
 use Rattle.udp_frames.specs.Damage.{IsPayload, flipped, WrittenIsRead, FlippedBitNeverForges}
 use Rattle.udp_frames.specs.Reading.{Datagram, reads}
-use Rattle.once_law.proofs.Parts.{AreBytes, CanBeFramed, IsCallPacket, IsAnswer, IsSent, answer_kind}
+use Rattle.item_list.specs.Bytes.{AreBytes}
+use Rattle.once_law.proofs.Parts.{CanBeFramed, IsCallPacket, IsAnswer, IsSent, answer_kind}
 use Rattle.rpc_header.specs.declared.Header.{Header}
 use Rattle.rpc_header.specs.Spelling.{HasSpelling, FitsFields, spelling}
 use Rattle.rpc_header.specs.Reading.{Accepted, read_of}

@@ -7,7 +7,8 @@ use Rattle.std.specs.Int.{byte_at}
 use Rattle.byteorder.specs.Endian.{big_bytes}
 use Rattle.once_law.proofs.Lists.{take_short}
 use Rattle.once_law.proofs.Places.{in_range}
-use Rattle.once_law.proofs.Parts.{AreBytes, IsOnePiece, CanBeFramed, HasRoom, answer_kind}
+use Rattle.item_list.specs.Bytes.{AreBytes}
+use Rattle.once_law.proofs.Parts.{IsOnePiece, CanBeFramed, HasRoom, answer_kind}
 use Rattle.rpc_header.specs.Spelling.{HasSpelling}
 use Rattle.call_rules.specs.Packet.{Packet, piece_size}
 use Rattle.call_rules.specs.Caller.{first_sending}

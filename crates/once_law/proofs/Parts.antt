@@ -1,6 +1,7 @@
 -- The invariant: what holds of the parts of the world after any events, and of which `Once` is a part.
 use Rattle.std.proofs.Common.{◌≡◌, ◌≢◌, ℕ, ◌^◌, ◌<◌, ◌≤◌, List, length, map, Option, Some, None, Bool, true, false, cond}
-use Rattle.std.specs.Prelude.{All, Contains}
+use Rattle.std.specs.Prelude.{Contains}
+use Rattle.item_list.specs.Bytes.{AreBytes}
 use Rattle.udp_frames.specs.Frame.{IsMachine}
 use Rattle.rpc_header.specs.declared.Activity.{Activity}
 use Rattle.rpc_header.specs.declared.Kind.{Kind}
@@ -33,9 +34,6 @@ pub record HasRun (journal : List Run) (call : Call) (signal : Bool) (reply : Li
   pub same_call : run.call ≡ call
   pub same_signal : run.signal ≡ signal
   pub same_reply : run.reply ≡ reply
-
-abbrev pub AreBytes : List ℕ → Type 0
-AreBytes bytes = All (λ byte. byte < 256) bytes
 
 -- a reply that one packet carries
 pub record IsOnePiece (reply : List ℕ) : Type 0 where

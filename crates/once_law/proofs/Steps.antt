@@ -23,13 +23,14 @@ use Rattle.call_rules.specs.Entry as entry
 use Rattle.call_rules.specs.Caller.{Caller, is_idle, current_call, on_packet, Act, Last}
 use Rattle.call_rules.specs.Worker.{Worker, Resting, Claimed, Admitted, Ran, Answer, Run, on_judged, on_idle, on_claimed, on_ran, reply_packet}
 use Rattle.call_rules.specs.Worker as worker
+use Rattle.replay_model.specs.declared.limits.TheConstants.{SERVER_MACHINE, READY_CELLS}
 use Rattle.replay_model.specs.declared.event.CallWord.{CallWord}
 use Rattle.replay_model.specs.declared.event.Event.{Event}
 use Rattle.replay_model.specs.declared.event.Event.TheVariants as event
 use Rattle.replay_model.specs.Service.{Served, served, procedure_of, arguments_of}
-use Rattle.replay_model.specs.Record.{Records, Start, Mark, SentPacket, server_machine, recorded, recorded_all, with_mark, Starts}
+use Rattle.replay_model.specs.Record.{Records, Start, Mark, SentPacket, recorded, recorded_all, with_mark, Starts}
 use Rattle.replay_model.specs.Arrival.{Arrival, Comes, Dropped, arrives, frame_of}
-use Rattle.replay_model.specs.Step.{Outcome, starts, call_by, call_event, server_takes, heard, line_takes, client_takes, machine_takes, takes_arrival, deliver_event, damage_event, show_event, works, runs_body, claims, claims_next, work_event, step, started_caller, call_packet, with_line, ready_cells}
+use Rattle.replay_model.specs.Step.{Outcome, starts, call_by, call_event, server_takes, heard, line_takes, client_takes, machine_takes, takes_arrival, deliver_event, damage_event, show_event, works, runs_body, claims, claims_next, work_event, step, started_caller, call_packet, with_line}
 use Rattle.replay_model.specs.World.{World, Client, Line, numbered, packet_at, entry_at, with_numbered, with_entry, number_limit}
 
 -- the world after an outcome, with what happened recorded
@@ -90,7 +91,7 @@ Holds-call w m p asked (Some c) h e = Holds-call_by w m p c asked (numbered 1 c.
 Holds-server_takes : (w : World) (k : ℕ) (p : Packet) → Holds w → Contains w.bag p → p.to ≡ 1 → Holds (after w (server_takes w k p))
 unfolding server_takes
 Holds-server_takes w k p h c to =
-    either w (ltb (length w.server.ready) ready_cells) _ _
+    either w (ltb (length w.server.ready) READY_CELLS) _ _
     (λ room. record { second_fits = h.second_fits; parts = Inv-ready w.clients w.server.entries w.server.workers w.server.ready w.bag w.records.started w.records.journal w.records.returns p h.parts c to }) (λ full. h)
 
 Holds-heard : (w : World) (k : ℕ) (p : Packet) (c : Client) (l : Line) (a : Act) → Holds w → Contains w.bag p → p.to ≢ 1 → numbered 2 w.clients p.to ≡ Some c → numbered 1 c.lines (p.header.hint + 1) ≡ Some l → is_idle l.caller.state ≡ false → (on_packet l.caller p.header).act ≡ a → Holds (after w (heard w k p c l (on_packet l.caller p.header).caller a))
@@ -131,7 +132,7 @@ Holds-client_takes w k p (Some c) h cp to e = Holds-line_takes w k p c (numbered
 Holds-machine_takes : (w : World) (k : ℕ) (p : Packet) → Holds w → Contains w.bag p → Holds (after w (machine_takes w k p))
 unfolding machine_takes
 Holds-machine_takes w k p h c =
-    either w (eqb p.to server_machine) _ _ (λ t. Holds-server_takes w k p h c (eqb-true p.to 1 t))
+    either w (eqb p.to SERVER_MACHINE) _ _ (λ t. Holds-server_takes w k p h c (eqb-true p.to 1 t))
     (λ f. Holds-client_takes w k p (numbered 2 w.clients p.to) h c (eqb-false p.to 1 f) refl)
 
 -- a packet that was sent comes, or is dropped

@@ -1,2 +1,1 @@
-pub mod DigestLines
-pub mod Put
+pub mod Texts

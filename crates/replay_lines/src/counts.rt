@@ -1,14 +1,13 @@
 //! The counts of calls, and the last line, which shows them.
 
-ghost use Rattle.std.specs.Prelude.{◌≡◌, ◌++◌, ◌+◌, ◌<◌, ◌^◌, OnOk, codes};
-ghost use Rattle.std.specs.Fmt.{decimal};
+ghost use Rattle.std.specs.Prelude.{◌≡◌, ◌++◌, ◌<◌, ◌^◌, OnOk};
 ghost use Rattle.replay_model.specs.Record as act;
 ghost use Rattle.replay_model.specs.Record.{counts_of, no_records};
-ghost use Rattle.replay_model.specs.Lines.{newline, lines_of_act};
+ghost use Rattle.replay_model.specs.Lines.{lines_of_act};
 ghost use Rattle.replay_lines.specs.Counts.{counts_run, counts_return};
 
-use crate::text::put;
-use std::alloc::{AllocError, Global};
+use crate::text::Print;
+use std::alloc::AllocError;
 use std::marker::Model;
 
 /// How many calls ran, and how they ended for their callers.
@@ -71,29 +70,18 @@ impl Counts {
 }
 
 /// Appends the last line, which shows the counts.
-pub fn put_end(alloc: Global, out: &mut Vec<u8>, counts: &Counts) -> Result<(), AllocError>
+pub fn put_end(out: &mut Vec<u8>, counts: &Counts) -> Result<(), AllocError>
     ensures { OnOk result (out.new.items ≡ out.old.items ++ lines_of_act (act.Ends counts.now)) }
 {
-    put_ran(alloc, out, counts.runs, counts.returned, counts.signalled)?;
-    put_lost(alloc, out, counts.failed, counts.refused)
-}
-
-fn put_ran(
-    alloc: Global,
-    out: &mut Vec<u8>,
-    runs: u64,
-    returned: u64,
-    signalled: u64,
-) -> Result<(), AllocError>
-    ensures { OnOk result (out.new.items ≡ out.old.items ++ (codes "end runs " ++ decimal runs ++ codes " returned " ++ decimal returned ++ codes " signalled " ++ decimal signalled)) }
-{
-    let line = format!(in alloc; "end runs {runs} returned {returned} signalled {signalled}")?;
-    put(out, line.as_str())
-}
-
-fn put_lost(alloc: Global, out: &mut Vec<u8>, failed: u64, refused: u64) -> Result<(), AllocError>
-    ensures { OnOk result (out.new.items ≡ out.old.items ++ (codes " failed " ++ decimal failed ++ codes " refused " ++ decimal refused ++ newline)) }
-{
-    let line = format!(in alloc; " failed {failed} refused {refused}\n")?;
-    put(out, line.as_str())
+    let Counts {
+        runs,
+        returned,
+        signalled,
+        failed,
+        refused,
+    } = *counts;
+    writeln!(
+        out,
+        "end runs {runs} returned {returned} signalled {signalled} failed {failed} refused {refused}"
+    )
 }

@@ -5,10 +5,10 @@
 //! `out` may then end in a part of a line.
 #![tactic(auto)]
 
+mod bytes;
 mod calls;
 mod counts;
 mod deliveries;
-mod digests;
 mod packets;
 mod runs;
 mod text;

@@ -1,108 +1,80 @@
 //! The lines of packets that are sent.
 
-ghost use Rattle.std.specs.Prelude.{◌≡◌, ◌++◌, OnOk, codes, if◌then◌else◌};
-ghost use Rattle.std.specs.Fmt.{decimal};
-ghost use Rattle.replay_model.specs.Record as act;
-ghost use Rattle.replay_model.specs.Lines.{blank, newline, kind_text, lines_of_act};
+ghost use Rattle.std.specs.Prelude.{◌≡◌, ◌++◌, OnOk, Some};
+ghost use Rattle.call_rules.specs.Packet.{fields_of};
+ghost use Rattle.replay_model.specs.Lines.{flags_text, header_text, kind_text, packet_line};
 
-use crate::text::put;
-use replay_packets::Outgoing;
-use rpc_header::Kind;
-use std::alloc::{AllocError, Global};
+use crate::text::Print;
+use rpc_header::{Header, Kind};
+use std::alloc::AllocError;
+use std::fmt::{self, Display, Formatter};
 
-/// Appends the line of a packet that is sent, with its number.
+/// Appends the line of a packet that machine `from` sends to machine `to`, with its number and the length of its
+/// data.
 pub fn put_packet(
-    alloc: Global,
-    out: &mut Vec<u8>,
-    number: usize,
-    packet: &Outgoing,
-) -> Result<(), AllocError>
-    ensures { OnOk result (out.new.items ≡ out.old.items ++ lines_of_act (act.Sends number packet.now)) }
-{
-    let header = packet.header();
-    put_route(
-        alloc,
-        out,
-        number,
-        packet.from().machine,
-        packet.to().machine,
-    )?;
-    put_piece(
-        alloc,
-        out,
-        header.kind,
-        header.call.number.value,
-        header.fragment,
-    )?;
-    put_flags(
-        alloc,
-        out,
-        header.please_ack,
-        header.last,
-        packet.payload_len(),
-    )
-}
-
-fn put_route(
-    alloc: Global,
     out: &mut Vec<u8>,
     number: usize,
     from: u8,
     to: u8,
-) -> Result<(), AllocError>
-    ensures { OnOk result (out.new.items ≡ out.old.items ++ (codes "packet " ++ decimal number ++ blank ++ decimal from ++ codes ">" ++ decimal to)) }
-{
-    let line = format!(in alloc; "packet {number} {from}>{to}")?;
-    put(out, line.as_str())
-}
-
-fn put_piece(
-    alloc: Global,
-    out: &mut Vec<u8>,
-    kind: Kind,
-    number: u64,
-    fragment: u16,
-) -> Result<(), AllocError>
-    ensures { OnOk result (out.new.items ≡ out.old.items ++ (blank ++ kind_text kind ++ blank ++ decimal number ++ codes "/" ++ decimal fragment)) }
-{
-    let kind = kind_text(kind);
-    let line = format!(in alloc; " {kind} {number}/{fragment}")?;
-    put(out, line.as_str())
-}
-
-fn put_flags(
-    alloc: Global,
-    out: &mut Vec<u8>,
-    please_ack: bool,
-    last: bool,
+    header: &Header,
     len: usize,
 ) -> Result<(), AllocError>
-    ensures { OnOk result (out.new.items ≡ out.old.items ++ (blank ++ ((if please_ack then codes "a" else codes "-") ++ (if last then codes "l" else codes "-")) ++ blank ++ decimal len ++ newline)) }
+    ensures { OnOk result (out.new.items ≡ out.old.items ++ packet_line number from to (fields_of header.now) len) }
 {
-    let please_ack = flag_text(please_ack, "a");
-    let last = flag_text(last, "l");
-    let line = format!(in alloc; " {please_ack}{last} {len}\n")?;
-    put(out, line.as_str())
+    let header = HeaderText(header);
+    writeln!(out, "packet {number} {from}>{to} {header} {len}")
 }
 
-fn kind_text(kind: Kind) -> &'static str
-    ensures { result.now ≡ kind_text kind }
-{
-    match kind {
-        Kind::Call => "call",
-        Kind::Result => "result",
-        Kind::Ack => "ack",
-        Kind::Probe => "probe",
-        Kind::Reject => "reject",
-        Kind::Signal => "signal",
-        Kind::Bind => "bind",
-        Kind::Bound => "bound",
+/// A header by its kind, its call's number with its fragment's, and its flags.
+#[derive(Clone, Copy)]
+struct HeaderText<'a>(&'a Header);
+
+impl Display for HeaderText<'_> {
+    ghost output = { λ h. Some (header_text (fields_of h.0.now)) };
+
+    fn fmt<W: fmt::Write>(&self, f: &mut Formatter<W>) -> fmt::Result {
+        let header = self.0;
+        let kind = KindText(header.kind);
+        let call = header.call.number.value;
+        let fragment = header.fragment;
+        write!(f, "{kind} {call}/{fragment} {}", FlagsText(header))
     }
 }
 
-/// The letter of a flag, or a dash where it isn't set.
-fn flag_text(is_set: bool, letter: &str) -> &str
-    ensures { result.now ≡ (if is_set then letter.now else codes "-") }
-{
-    if is_set { letter } else { "-" }
+/// The name of a kind.
+#[derive(Clone, Copy)]
+struct KindText(Kind);
+
+impl Display for KindText {
+    ghost output = { λ k. Some (kind_text k.0) };
+
+    fn fmt<W: fmt::Write>(&self, f: &mut Formatter<W>) -> fmt::Result {
+        f.write_str(match self.0 {
+            Kind::Call => "call",
+            Kind::Result => "result",
+            Kind::Ack => "ack",
+            Kind::Probe => "probe",
+            Kind::Reject => "reject",
+            Kind::Signal => "signal",
+            Kind::Bind => "bind",
+            Kind::Bound => "bound",
+        })
+    }
+}
+
+/// The flags of a header, each a letter or a dash.
+#[derive(Clone, Copy)]
+struct FlagsText<'a>(&'a Header);
+
+impl Display for FlagsText<'_> {
+    ghost output = { λ h. Some (flags_text (fields_of h.0.now)) };
+
+    fn fmt<W: fmt::Write>(&self, f: &mut Formatter<W>) -> fmt::Result {
+        f.write_str(match (self.0.please_ack, self.0.last) {
+            (false, false) => "--",
+            (false, true) => "-l",
+            (true, false) => "a-",
+            (true, true) => "al",
+        })
+    }
 }

@@ -1,20 +1,20 @@
 //! The lines of the journal, and what is kept of a run to print them.
 
-ghost use Rattle.std.specs.Prelude.{◌≡◌, ◌++◌, ◌<◌, ◌^◌, List, map, length, OnOk, codes};
-ghost use Rattle.std.specs.Fmt.{decimal};
+ghost use Rattle.std.specs.Prelude.{◌≡◌, ◌++◌, ◌<◌, ◌^◌, List, map, length, OnOk, Some};
 ghost use Rattle.call_rules.specs.Packet.{call_of};
 ghost use Rattle.call_rules.specs.Worker.{Run};
 ghost use Rattle.replay_model.specs.Record as act;
-ghost use Rattle.replay_model.specs.Lines.{lines_of_act, procedure_text};
-ghost use Rattle.replay_lines.specs.Digests.{run_digest};
-ghost use Rattle.replay_lines.specs.Printed.{run_digest_line};
+ghost use Rattle.replay_model.specs.Lines.{lines_of_act, procedure_text, run_text};
+ghost use Rattle.replay_model.specs.Digests.{run_digest};
 
-use crate::digests::{digest_of_text, put_digest, put_reply};
-use crate::text::{put, put_call};
-use lane_checksum::Digest;
+use crate::bytes::{BytesText, ReplyText};
+use crate::calls::CallText;
+use crate::text::Print;
+use lane_checksum::{Digest, digest_of};
 use replay_model::{ADD, NULL};
 use rpc_header::CallId;
-use std::alloc::{AllocError, Global};
+use std::alloc::AllocError;
+use std::fmt::{self, Display, Formatter};
 use std::marker::Model;
 
 /// A line of the journal: one run of a body, with digests of what it took and gave.
@@ -33,7 +33,7 @@ pub struct RunLine {
 }
 
 impl Model for RunLine {
-    ghost use Rattle.replay_lines.specs.Digests.{RunDigest};
+    ghost use Rattle.replay_model.specs.Digests.{RunDigest};
     ghost use Rattle.call_rules.specs.Packet.{call_of};
 
     ghost Value = { RunDigest };
@@ -63,56 +63,54 @@ impl RunLine {
         RunLine {
             call,
             procedure,
-            arguments: digest_of_text(arguments),
+            arguments: digest_of(arguments),
             signal,
-            reply: digest_of_text(reply),
+            reply: digest_of(reply),
         }
     }
 }
 
 /// Appends the journal: the line of each run, or one line that says that there is none.
-pub fn put_runs(alloc: Global, out: &mut Vec<u8>, runs: &[RunLine]) -> Result<(), AllocError>
+pub fn put_runs(out: &mut Vec<u8>, runs: &[RunLine]) -> Result<(), AllocError>
     ensures { (journal : List Run) → runs.now ≡ map run_digest journal →
         OnOk result (out.new.items ≡ out.old.items ++ lines_of_act (act.ListsRuns journal)) }
 {
     if runs.is_empty() {
-        return put(out, "journal empty\n");
+        return writeln!(out, "journal empty");
     }
     for (i, run) in runs.iter().enumerate() {
-        put_run(alloc, out, i + 1, run)?;
+        writeln!(out, "run {} {run}", i + 1)?;
     }
     Ok(())
 }
 
-fn put_run(alloc: Global, out: &mut Vec<u8>, number: usize, run: &RunLine) -> Result<(), AllocError>
-    ensures { OnOk result (out.new.items ≡ out.old.items ++ run_digest_line number run.now) }
-{
-    put_number(alloc, out, number)?;
-    put_call(alloc, out, "", run.call)?;
-    put_procedure(alloc, out, run.procedure)?;
-    put(out, " ")?;
-    put_digest(alloc, out, &run.arguments)?;
-    put(out, " -> ")?;
-    put_reply(alloc, out, run.signal, &run.reply)?;
-    put(out, "\n")
+impl Display for RunLine {
+    ghost output = { λ r. Some (run_text r) };
+
+    fn fmt<W: fmt::Write>(&self, f: &mut Formatter<W>) -> fmt::Result {
+        let call = CallText(self.call);
+        let procedure = ProcedureText(self.procedure);
+        let arguments = BytesText(self.arguments);
+        let reply = ReplyText {
+            signal: self.signal,
+            reply: self.reply,
+        };
+        write!(f, "{call} {procedure} {arguments} -> {reply}")
+    }
 }
 
-fn put_number(alloc: Global, out: &mut Vec<u8>, number: usize) -> Result<(), AllocError>
-    ensures { OnOk result (out.new.items ≡ out.old.items ++ (codes "run " ++ decimal number)) }
-{
-    let line = format!(in alloc; "run {number}")?;
-    put(out, line.as_str())
-}
+/// A procedure by its name, where the test service has it.
+#[derive(Clone, Copy)]
+struct ProcedureText(u16);
 
-fn put_procedure(alloc: Global, out: &mut Vec<u8>, procedure: u16) -> Result<(), AllocError>
-    ensures { OnOk result (out.new.items ≡ out.old.items ++ procedure_text procedure) }
-{
-    match procedure {
-        NULL => put(out, "null"),
-        ADD => put(out, "add"),
-        other => {
-            let text = other.to_string(alloc)?;
-            put(out, text.as_str())
+impl Display for ProcedureText {
+    ghost output = { λ p. Some (procedure_text p.0) };
+
+    fn fmt<W: fmt::Write>(&self, f: &mut Formatter<W>) -> fmt::Result {
+        match self.0 {
+            NULL => f.write_str("null"),
+            ADD => f.write_str("add"),
+            number => write!(f, "{number}"),
         }
     }
 }

@@ -2,10 +2,8 @@
 
 use super::*;
 use call_rules::{Did, Unfit};
-use ff_io::Station;
 use replay_model::Discard;
-use replay_packets::{Outgoing, SERVER};
-use rpc_header::{Activity, CallId, Export, Header, HeaderFault, Kind, fits, number};
+use rpc_header::{Activity, CallId, Export, Header, HeaderFault, Kind, number};
 use std::alloc::{AllocError, Global};
 use std::test::Fail;
 use udp_frames::FrameFault;
@@ -45,14 +43,14 @@ fn calls_start_and_return(rt: HostRuntime) -> Result<(), Fail> {
     let call = first_call().ok_or("a call number")?;
     let mut out = Vec::new(alloc);
     put_impossible(&mut out)?;
-    put_start(alloc, &mut out, call)?;
-    put_too_fast(alloc, &mut out, 131_072, 1)?;
-    put_return(alloc, &mut out, call, false, &[])?;
-    put_return(alloc, &mut out, call, false, &[0, 0, 0, 1])?;
-    put_return(alloc, &mut out, call, true, &[0, 1])?;
+    put_start(&mut out, call)?;
+    put_too_fast(&mut out, 131_072, 1)?;
+    put_return(&mut out, call, false, &[])?;
+    put_return(&mut out, call, false, &[0, 0, 0, 1])?;
+    put_return(&mut out, call, true, &[0, 1])?;
     let long = long_result(alloc)?;
     assert_eq!(rt; long.len(), 1441);
-    put_return(alloc, &mut out, call, false, &long)?;
+    put_return(&mut out, call, false, &long)?;
     assert_eq!(rt; out.as_slice(), CALLS);
     Ok(())
 }
@@ -61,22 +59,6 @@ const PACKETS: &[u8] = b"packet 1 2>1 call 65536/0 -l 0\n\
 packet 2 1>2 result 65536/0 a- 1440\n\
 packet 3 2>1 call 65536/1 -l 1\n\
 packet 5 2>1 probe 65536/0 al 0\n";
-
-const CLIENT: Station = Station { machine: 2 };
-
-/// The packet with this header and these data.
-fn packet(
-    alloc: Global,
-    from: Station,
-    to: Station,
-    header: Header,
-    data: &[u8],
-) -> Result<Outgoing, Fail> {
-    if !fits(&header, data.len()) {
-        return Err("a header that fits".into());
-    }
-    Ok(Outgoing::new(alloc, from, to, header, data)?)
-}
 
 #[test]
 fn packets_are_sent(rt: HostRuntime) -> Result<(), Fail> {
@@ -96,40 +78,20 @@ fn packets_are_sent(rt: HostRuntime) -> Result<(), Fail> {
         procedure: 0,
     };
     let mut out = Vec::new(alloc);
-    put_packet(
-        alloc,
-        &mut out,
-        1,
-        &packet(alloc, CLIENT, SERVER, header, &[])?,
-    )?;
+    put_packet(&mut out, 1, 2, 1, &header, 0)?;
     header.kind = Kind::Result;
     header.please_ack = true;
     header.last = false;
-    put_packet(
-        alloc,
-        &mut out,
-        2,
-        &packet(alloc, SERVER, CLIENT, header, &[0; 1440])?,
-    )?;
+    put_packet(&mut out, 2, 1, 2, &header, 1440)?;
     header.kind = Kind::Call;
     header.please_ack = false;
     header.last = true;
     header.fragment = 1;
-    put_packet(
-        alloc,
-        &mut out,
-        3,
-        &packet(alloc, CLIENT, SERVER, header, &[7])?,
-    )?;
+    put_packet(&mut out, 3, 2, 1, &header, 1)?;
     header.kind = Kind::Probe;
     header.please_ack = true;
     header.fragment = 0;
-    put_packet(
-        alloc,
-        &mut out,
-        5,
-        &packet(alloc, CLIENT, SERVER, header, &[])?,
-    )?;
+    put_packet(&mut out, 5, 2, 1, &header, 0)?;
     assert_eq!(rt; out.as_slice(), PACKETS);
     Ok(())
 }
@@ -153,14 +115,20 @@ worker 1 claims 65536\n\
 worker 1 admits 65536\n\
 worker 1 runs 65536\n\
 worker 1 replies 65536\n\
-worker 2 drops Lost\n";
+worker 2 drops Lost\n\
+worker 3 begins 65536\n\
+worker 4 takes 65536\n\
+worker 4 rests 65536\n\
+worker 4 rejects 65536 2\n\
+worker 4 waits\n\
+worker 4 drops NoBuffer\n";
 
 #[test]
 fn packets_come_and_workers_step(rt: HostRuntime) -> Result<(), Fail> {
     let alloc = rt.alloc();
     let mut out = Vec::new(alloc);
-    put_ready(alloc, &mut out, 1)?;
-    put_frame(alloc, &mut out, 1, &[0x00, 0xff, 0x9a])?;
+    put_ready(&mut out, 1)?;
+    put_frame(&mut out, 1, &[0x00, 0xff, 0x9a])?;
     put_discard(&mut out, Discard::Frame(FrameFault::NotForUs))?;
     put_discard(&mut out, Discard::Frame(FrameFault::UdpChecksum))?;
     put_discard(&mut out, Discard::Header(HeaderFault::Reserved))?;
@@ -173,12 +141,18 @@ fn packets_come_and_workers_step(rt: HostRuntime) -> Result<(), Fail> {
     put_discard(&mut out, Discard::Taken)?;
     put_discard(&mut out, Discard::Lost)?;
     put_discard(&mut out, Discard::Unused)?;
-    put_idle(alloc, &mut out, 1)?;
-    put_work(alloc, &mut out, 1, 65536, Did::Claims)?;
-    put_work(alloc, &mut out, 1, 65536, Did::Admits)?;
-    put_work(alloc, &mut out, 1, 65536, Did::Runs)?;
-    put_work(alloc, &mut out, 1, 65536, Did::Replies)?;
-    put_work(alloc, &mut out, 2, 65536, Did::Drops(Unfit::Lost))?;
+    put_idle(&mut out, 1)?;
+    put_work(&mut out, 1, 65536, Did::Claims)?;
+    put_work(&mut out, 1, 65536, Did::Admits)?;
+    put_work(&mut out, 1, 65536, Did::Runs)?;
+    put_work(&mut out, 1, 65536, Did::Replies)?;
+    put_work(&mut out, 2, 65536, Did::Drops(Unfit::Lost))?;
+    put_work(&mut out, 3, 65536, Did::Begins)?;
+    put_work(&mut out, 4, 65536, Did::Takes)?;
+    put_work(&mut out, 4, 65536, Did::Rests)?;
+    put_work(&mut out, 4, 65536, Did::Rejects(2))?;
+    put_work(&mut out, 4, 65536, Did::Waits)?;
+    put_work(&mut out, 4, 65536, Did::Drops(Unfit::NoBuffer))?;
     assert_eq!(rt; out.as_slice(), STEPS);
     Ok(())
 }
@@ -194,7 +168,7 @@ fn runs_are_listed_and_counted(rt: HostRuntime) -> Result<(), Fail> {
     let call = first_call().ok_or("a call number")?;
     let mut out = Vec::new(alloc);
     let mut runs = Vec::new(alloc);
-    put_runs(alloc, &mut out, &runs)?;
+    put_runs(&mut out, &runs)?;
     let mut counts = Counts::none();
     runs.push(RunLine::new(call, 0, &[], false, &[]))?;
     counts.count_run();
@@ -202,8 +176,8 @@ fn runs_are_listed_and_counted(rt: HostRuntime) -> Result<(), Fail> {
     runs.push(RunLine::new(call, 1, &[1; 17], true, &[0, 0]))?;
     counts.count_run();
     counts.count_return(true);
-    put_runs(alloc, &mut out, &runs)?;
-    put_end(alloc, &mut out, &counts)?;
+    put_runs(&mut out, &runs)?;
+    put_end(&mut out, &counts)?;
     assert_eq!(rt; out.as_slice(), ENDS);
     Ok(())
 }

@@ -1,32 +1,43 @@
-//! Words that several lines have.
+//! Printing into a text.
 
-ghost use Rattle.std.specs.Prelude.{◌≡◌, ◌++◌, OnOk};
-ghost use Rattle.call_rules.specs.Packet.{call_of};
-ghost use Rattle.replay_model.specs.Lines.{blank, call_text};
+ghost use Rattle.std.specs.Prelude.{◌≡◌, OnOk, Some};
+ghost use Rattle.std.specs.Fmt.{AppendsText};
+ghost use Rattle.std.specs.Io.KnownBytes.{Appends};
 
-use rpc_header::CallId;
-use std::alloc::{AllocError, Global};
+use std::alloc::AllocError;
+use std::fmt::{self, Display, Write};
 
-/// A text as it is.
-pub fn put(out: &mut Vec<u8>, text: &str) -> Result<(), AllocError>
-    ensures { OnOk result (out.new.items ≡ out.old.items ++ text.now) }
-{
-    out.extend_from_slice(text.as_bytes())
+/// A text that is printed into.
+pub(crate) trait Print {
+    /// Appends a value as `{}` prints it, which takes memory only where the text grows. This is what `writeln!` calls.
+    fn write_fmt<D: Display + Drop>(&mut self, value: D) -> Result<(), AllocError>;
 }
 
-/// A word, and a call between blanks.
-pub fn put_call(
-    alloc: Global,
-    out: &mut Vec<u8>,
-    word: &str,
-    call: CallId,
-) -> Result<(), AllocError>
-    ensures { OnOk result (out.new.items ≡ out.old.items ++ (word.now ++ blank ++ call_text (call_of call) ++ blank)) }
-{
-    put(out, word)?;
-    let line = format!(in alloc;
-        " {}.{} {} ",
-        call.activity.machine, call.activity.process, call.number.value
-    )?;
-    put(out, line.as_str())
+impl Print for Vec<u8> {
+    fn write_fmt<D: Display + Drop>(&mut self, value: D) -> Result<(), AllocError>
+        ensures { OnOk result (AppendsText self.old.items self.new.items (D.output value)) }
+    {
+        let mut end = End { text: self };
+        match end.write(value) {
+            Ok(()) => Ok(()),
+            Err(_) => Err(AllocError),
+        }
+    }
+}
+
+/// The end of a text, as a writer.
+#[derive(Drop)]
+struct End<'a> {
+    text: &'a mut Vec<u8>,
+}
+
+impl fmt::Write for End<'_> {
+    ghost write_str_gives = { λ s bytes t. (t.text.ghost_name ≡ s.text.ghost_name) × Appends (Some s.text.now.items) (Some t.text.now.items) bytes };
+
+    fn write_str(&mut self, s: &str) -> fmt::Result {
+        match self.text.extend_from_slice(s.as_bytes()) {
+            Ok(()) => Ok(()),
+            Err(_) => Err(fmt::Error),
+        }
+    }
 }

@@ -1,62 +1,77 @@
 //! The lines of workers.
 
-ghost use Rattle.std.specs.Prelude.{◌≡◌, ◌++◌, OnOk};
+ghost use Rattle.std.specs.Prelude.{◌≡◌, ◌++◌, OnOk, Some};
 ghost use Rattle.replay_model.specs.Record as act;
-ghost use Rattle.replay_model.specs.Lines.{unfit_text, lines_of_act};
+ghost use Rattle.replay_model.specs.Lines.{did_text, unfit_text, lines_of_act};
 
-use crate::text::put;
+use crate::text::Print;
 use call_rules::{Did, Unfit};
-use std::alloc::{AllocError, Global};
+use std::alloc::AllocError;
+use std::fmt::{self, Display, Formatter};
 
 /// Appends the line of a worker that finds nothing to do.
-pub fn put_idle(alloc: Global, out: &mut Vec<u8>, worker: u8) -> Result<(), AllocError>
+pub fn put_idle(out: &mut Vec<u8>, worker: u8) -> Result<(), AllocError>
     ensures { OnOk result (out.new.items ≡ out.old.items ++ lines_of_act (act.Idles worker)) }
 {
-    let line = format!(in alloc; "worker {worker} idle\n")?;
-    put(out, line.as_str())
+    writeln!(out, "worker {worker} idle")
 }
 
 /// Appends the line of a worker's step for a call of this number.
-pub fn put_work(
-    alloc: Global,
-    out: &mut Vec<u8>,
-    worker: u8,
-    number: u64,
-    did: Did,
-) -> Result<(), AllocError>
+pub fn put_work(out: &mut Vec<u8>, worker: u8, number: u64, did: Did) -> Result<(), AllocError>
     ensures { OnOk result (out.new.items ≡ out.old.items ++ lines_of_act (act.Works worker number did)) }
 {
-    let line = match did {
-        Did::Claims => format!(in alloc; "worker {worker} claims {number}\n")?,
-        Did::Admits => format!(in alloc; "worker {worker} admits {number}\n")?,
-        Did::Runs => format!(in alloc; "worker {worker} runs {number}\n")?,
-        Did::Replies => format!(in alloc; "worker {worker} replies {number}\n")?,
-        Did::Begins => format!(in alloc; "worker {worker} begins {number}\n")?,
-        Did::Takes => format!(in alloc; "worker {worker} takes {number}\n")?,
-        Did::Rests => format!(in alloc; "worker {worker} rests {number}\n")?,
-        Did::Fetches => format!(in alloc; "worker {worker} fetches {number}\n")?,
-        Did::Resends => format!(in alloc; "worker {worker} resends {number}\n")?,
-        Did::Acks => format!(in alloc; "worker {worker} acks {number}\n")?,
-        Did::Answers => format!(in alloc; "worker {worker} answers {number}\n")?,
-        Did::Rejects(reason) => format!(in alloc; "worker {worker} rejects {number} {reason}\n")?,
-        Did::Waits => format!(in alloc; "worker {worker} waits\n")?,
-        Did::Drops(why) => format!(in alloc; "worker {worker} drops {}\n", unfit_text(why))?,
-    };
-    put(out, line.as_str())
+    writeln!(out, "worker {worker} {}", DidText { number, did })
 }
 
-fn unfit_text(why: Unfit) -> &'static str
-    ensures { result.now ≡ unfit_text why }
-{
-    match why {
-        Unfit::Older => "Older",
-        Unfit::Same => "Same",
-        Unfit::Busy => "Busy",
-        Unfit::Unknown => "Unknown",
-        Unfit::Skipped => "Skipped",
-        Unfit::Lost => "Lost",
-        Unfit::Full => "Full",
-        Unfit::NoBuffer => "NoBuffer",
-        Unfit::BadName => "BadName",
+/// What a worker did for a call of this number.
+#[derive(Clone, Copy)]
+struct DidText {
+    number: u64,
+    did: Did,
+}
+
+impl Display for DidText {
+    ghost output = { λ d. Some (did_text d.number d.did) };
+
+    fn fmt<W: fmt::Write>(&self, f: &mut Formatter<W>) -> fmt::Result {
+        let number = self.number;
+        match self.did {
+            Did::Claims => write!(f, "claims {number}"),
+            Did::Admits => write!(f, "admits {number}"),
+            Did::Runs => write!(f, "runs {number}"),
+            Did::Replies => write!(f, "replies {number}"),
+            Did::Begins => write!(f, "begins {number}"),
+            Did::Takes => write!(f, "takes {number}"),
+            Did::Rests => write!(f, "rests {number}"),
+            Did::Fetches => write!(f, "fetches {number}"),
+            Did::Resends => write!(f, "resends {number}"),
+            Did::Acks => write!(f, "acks {number}"),
+            Did::Answers => write!(f, "answers {number}"),
+            Did::Rejects(reason) => write!(f, "rejects {number} {reason}"),
+            Did::Waits => f.write_str("waits"),
+            Did::Drops(why) => write!(f, "drops {}", UnfitText(why)),
+        }
+    }
+}
+
+/// The name of a reason to drop a packet.
+#[derive(Clone, Copy)]
+struct UnfitText(Unfit);
+
+impl Display for UnfitText {
+    ghost output = { λ u. Some (unfit_text u.0) };
+
+    fn fmt<W: fmt::Write>(&self, f: &mut Formatter<W>) -> fmt::Result {
+        f.write_str(match self.0 {
+            Unfit::Older => "Older",
+            Unfit::Same => "Same",
+            Unfit::Busy => "Busy",
+            Unfit::Unknown => "Unknown",
+            Unfit::Skipped => "Skipped",
+            Unfit::Lost => "Lost",
+            Unfit::Full => "Full",
+            Unfit::NoBuffer => "NoBuffer",
+            Unfit::BadName => "BadName",
+        })
     }
 }

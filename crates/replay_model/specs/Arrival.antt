@@ -13,7 +13,7 @@ use Rattle.udp_frames.specs.Reading.{Datagram, reads}
 use Rattle.call_rules.specs.Packet.{Fields, Packet, fields_of}
 use Rattle.replay_model.specs.declared.discard.Discard.{Discard}
 use Rattle.replay_model.specs.declared.discard.Discard.TheVariants as why
-use Rattle.replay_model.specs.Record.{server_machine}
+use Rattle.replay_model.specs.declared.limits.TheConstants.{SERVER_MACHINE}
 
 -- the header with these fields; of a call number its lowest 48 bits
 abbrev pub header_of : Fields → Header
@@ -59,11 +59,11 @@ client_takes_kind kind.Bound = true
 client_takes_kind _ = false
 
 abbrev pub takes_kind : (me : ℕ) → Kind → Bool
-takes_kind me k = if me == server_machine then server_takes_kind k else client_takes_kind k
+takes_kind me k = if me == SERVER_MACHINE then server_takes_kind k else client_takes_kind k
 
 -- the machine whose call a packet to this machine must name: at the server its sender, at a client this machine
 abbrev pub calling_machine : (me from : ℕ) → ℕ
-calling_machine me from = if me == server_machine then from else me
+calling_machine me from = if me == SERVER_MACHINE then from else me
 
 -- a packet that was read, unless the machine takes none of its kind or it names another machine's call
 abbrev pub arrival_of : (me : ℕ) → Packet → Arrival

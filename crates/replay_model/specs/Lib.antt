@@ -1,10 +1,14 @@
 pub mod Arrival
+pub mod Digests
 pub mod Examples
+pub mod FaultNumber
+pub mod Forms
 pub mod Lines
 pub mod Once
 pub mod Record
 pub mod Script
 pub mod Service
 pub mod Step
+pub mod TextFault
 pub mod Transcript
 pub mod World

@@ -1,8 +1,10 @@
--- The lines that are printed of what happens.
-use Rattle.std.specs.Prelude.{ℕ, zero, suc, ◌+◌, ◌*◌, ◌/◌, ◌%◌, List, [], ◌∷◌, ◌++◌, length, Bool, true, false, nat_le, if◌then◌else◌, codes}
+-- The lines that are printed of what happens. Texts of bytes are printed from what is kept of them, their digests.
+use Rattle.std.specs.Prelude.{◌≡◌, ◌⊎◌, ℕ, zero, suc, ◌+◌, ◌*◌, ◌/◌, ◌%◌, List, [], ◌∷◌, ◌++◌, length, take, map, slice_index, Bool, true, false, nat_le, if◌then◌else◌, codes}
 use Rattle.std.specs.List.{flat_map}
 use Rattle.std.specs.Fmt.{decimal, digit_glyph}
-use Rattle.lane_checksum.specs.PlainSum.{csum}
+use Rattle.lane_checksum.specs.Digests.{digest}
+use Rattle.lane_checksum.specs.declared.Digest.{Digest}
+use Rattle.lane_checksum.specs.declared.TheConstants.{HEAD_LEN}
 use Rattle.udp_frames.specs.declared.fault.FrameFault.{FrameFault}
 use Rattle.udp_frames.specs.declared.fault.FrameFault.TheVariants as frame_fault
 use Rattle.rpc_header.specs.declared.Activity.{Activity}
@@ -10,14 +12,14 @@ use Rattle.rpc_header.specs.declared.HeaderFault.{HeaderFault}
 use Rattle.rpc_header.specs.declared.HeaderFault.TheVariants as header_fault
 use Rattle.rpc_header.specs.declared.Kind.{Kind}
 use Rattle.rpc_header.specs.declared.Kind.TheVariants as kind
-use Rattle.call_rules.specs.Packet.{Call, Fields, Packet}
-use Rattle.call_rules.specs.Worker.{Run}
+use Rattle.call_rules.specs.Packet.{Call, Fields}
 use Rattle.call_rules.specs.declared.worker.Did.{Did}
 use Rattle.call_rules.specs.declared.worker.Did.TheVariants as did
 use Rattle.call_rules.specs.declared.worker.Unfit.{Unfit}
 use Rattle.call_rules.specs.declared.worker.Unfit.TheVariants as unfit
 use Rattle.replay_model.specs.declared.discard.Discard.{Discard}
 use Rattle.replay_model.specs.declared.discard.Discard.TheVariants as why
+use Rattle.replay_model.specs.Digests.{RunDigest, run_digest}
 use Rattle.replay_model.specs.Record.{Act, Counts}
 use Rattle.replay_model.specs.Record as act
 
@@ -45,21 +47,15 @@ hex_byte b = nibble (b / 16) ∷ nibble (b % 16) ∷ []
 abbrev pub hex : List ℕ → List ℕ
 hex bytes = flat_map hex_byte bytes
 
--- the most bytes that are printed one by one
-abbrev pub most_shown : ℕ
-most_shown = 16
+-- a length, and the bytes in hexadecimal where the digest has them all, else the four digits of the sum
+unfoldable pub bytes_text : Digest → List ℕ
+bytes_text d =
+    decimal d.len ++ codes ":"
+    ++ (if nat_le d.len HEAD_LEN then hex (take d.len d.head) else codes "#" ++ hex (d.sum / 256 ∷ d.sum % 256 ∷ []))
 
--- a length, and the bytes in hexadecimal where there are few, else the four digits of their sum
-unfoldable pub bytes_text : List ℕ → List ℕ
-bytes_text bytes =
-    decimal (length bytes) ++ codes ":"
-    ++ (if nat_le (length bytes) most_shown then hex bytes else codes "#" ++ hex_byte (csum bytes / 256) ++ hex_byte (csum bytes % 256))
-
--- the first two bytes, with zeros behind a shorter text
-abbrev pub exception_number : List ℕ → ℕ
-exception_number [] = 0
-exception_number (high ∷ []) = 256 * high
-exception_number (high ∷ low ∷ rest) = 256 * high + low
+-- the first two bytes
+abbrev pub exception_number : Digest → ℕ
+exception_number d = 256 * slice_index d.head 0 + slice_index d.head 1
 
 abbrev pub kind_text : Kind → List ℕ
 kind_text kind.Call = codes "call"
@@ -74,12 +70,16 @@ kind_text kind.Bound = codes "bound"
 abbrev pub flags_text : Fields → List ℕ
 flags_text h = (if h.please_ack then codes "a" else codes "-") ++ (if h.last then codes "l" else codes "-")
 
--- K FROM>TO KIND N/FRAGMENT FLAGS LENGTH
-abbrev pub packet_text : ℕ → Packet → List ℕ
-packet_text k p =
-    decimal k ++ blank ++ decimal p.from ++ codes ">" ++ decimal p.to ++ blank ++ kind_text p.header.kind ++ blank
-    ++ decimal p.header.call.number ++ codes "/" ++ decimal p.header.fragment ++ blank ++ flags_text p.header ++ blank
-    ++ decimal (length p.payload)
+-- KIND N/FRAGMENT FLAGS
+abbrev pub header_text : Fields → List ℕ
+header_text h =
+    kind_text h.kind ++ blank ++ decimal h.call.number ++ codes "/" ++ decimal h.fragment ++ blank ++ flags_text h
+
+-- a packet by its number, its sender, its receiver, its header and the length of its data
+abbrev pub packet_line : (number from to : ℕ) → Fields → (len : ℕ) → List ℕ
+packet_line number from to h len =
+    codes "packet " ++ decimal number ++ blank ++ decimal from ++ codes ">" ++ decimal to ++ blank ++ header_text h ++ blank
+    ++ decimal len ++ newline
 
 -- a procedure by its name, where the test service has it
 abbrev pub procedure_text : ℕ → List ℕ
@@ -88,25 +88,25 @@ procedure_text (suc zero) = codes "add"
 procedure_text (suc (suc n)) = decimal (suc (suc n))
 
 -- a signal by its number behind a mark
-abbrev pub reply_text : Bool → List ℕ → List ℕ
+abbrev pub reply_text : Bool → Digest → List ℕ
 reply_text false reply = bytes_text reply
 reply_text true reply = codes "!" ++ decimal (exception_number reply)
 
 -- A N PROCEDURE BYTES -> REPLY
-abbrev pub run_text : Run → List ℕ
+abbrev pub run_text : RunDigest → List ℕ
 run_text r =
     call_text r.call ++ blank ++ procedure_text r.procedure ++ blank ++ bytes_text r.arguments ++ codes " -> "
     ++ reply_text r.signal r.reply
 
-abbrev pub run_line : ℕ → Run → List ℕ
+abbrev pub run_line : ℕ → RunDigest → List ℕ
 run_line i r = codes "run " ++ decimal i ++ blank ++ run_text r ++ newline
 
 -- the runs from number i on
-abbrev pub run_lines : ℕ → List Run → List ℕ
+abbrev pub run_lines : ℕ → List RunDigest → List ℕ
 run_lines i [] = []
 run_lines i (r ∷ rs) = run_line i r ++ run_lines (i + 1) rs
 
-abbrev pub journal_lines : List Run → List ℕ
+abbrev pub journal_lines : List RunDigest → List ℕ
 journal_lines [] = codes "journal empty" ++ newline
 journal_lines (r ∷ rs) = run_lines 1 (r ∷ rs)
 
@@ -183,7 +183,7 @@ discard_text why.Taken = codes "Taken"
 discard_text why.Lost = codes "Lost"
 discard_text why.Unused = codes "Unused"
 
-abbrev pub return_line : Call → Bool → List ℕ → List ℕ
+abbrev pub return_line : Call → Bool → Digest → List ℕ
 return_line call false reply = codes "returned " ++ call_text call ++ blank ++ bytes_text reply ++ newline
 return_line call true reply = codes "signalled " ++ call_text call ++ blank ++ decimal (exception_number reply) ++ newline
 
@@ -196,18 +196,22 @@ abbrev pub lines_of_act : Act → List ℕ
 lines_of_act act.Impossible = codes "impossible" ++ newline
 lines_of_act (act.Starts s) = codes "start " ++ call_text s.call ++ newline
 lines_of_act (act.TooFast a number second) = codes "nostart TooFast " ++ decimal number ++ blank ++ decimal second ++ newline
-lines_of_act (act.Sends k p) = codes "packet " ++ packet_text k p ++ newline
+lines_of_act (act.Sends k p) = packet_line k p.from p.to p.header (length p.payload)
 lines_of_act (act.Readies k) = codes "ready " ++ decimal k ++ newline
 lines_of_act (act.Hears a k) = []
-lines_of_act (act.Returns r) = return_line r.call r.signal r.reply
+lines_of_act (act.Returns r) = return_line r.call r.signal (digest r.reply)
 lines_of_act (act.Discards reason) = codes "drop " ++ discard_text reason ++ newline
 lines_of_act (act.Idles number) = codes "worker " ++ decimal number ++ codes " idle" ++ newline
 lines_of_act (act.Works number n step) = codes "worker " ++ decimal number ++ blank ++ did_text n step ++ newline
 lines_of_act (act.HasRun run) = []
 lines_of_act (act.Shows k bytes) = frame_line k bytes
-lines_of_act (act.ListsRuns runs) = journal_lines runs
+lines_of_act (act.ListsRuns runs) = journal_lines (map run_digest runs)
 lines_of_act (act.Ends counts) = end_line counts
 
 abbrev pub lines_of : List Act → List ℕ
 lines_of [] = []
 lines_of (a ∷ acts) = lines_of_act a ++ lines_of acts
+
+-- nothing, or a text that ends with a newline
+abbrev pub EndsLine : List ℕ → Type 0
+EndsLine text = (text ≡ []) ⊎ ((front : List ℕ) × (text ≡ front ++ newline))

@@ -7,6 +7,7 @@ use Rattle.call_rules.specs.Packet.{Call, Packet}
 use Rattle.call_rules.specs.Worker.{Run}
 use Rattle.call_rules.specs.declared.worker.Did.{Did}
 use Rattle.replay_model.specs.declared.discard.Discard.{Discard}
+use Rattle.replay_model.specs.declared.limits.TheConstants.{SERVER_MACHINE}
 
 -- an accepted start of a call
 pub record Start : Type 0 where
@@ -109,17 +110,13 @@ pub data Act : Type 0 where
   ListsRuns : List Run → Act
   Ends : Counts → Act
 
--- the number of the server's machine
-abbrev pub server_machine : ℕ
-server_machine = 1
-
 abbrev pub with_mark : Records → Activity → Mark → Records
 with_mark r activity mark = record r { marks = r.marks ++ record { activity = activity; mark = mark } ∷ [] }
 
 -- what is kept of one thing that happens
 abbrev pub recorded : Records → Act → Records
 recorded r (Starts s) = record (with_mark r s.call.activity Begin) { started = r.started ++ s ∷ [] }
-recorded r (Sends k p) = if p.from == server_machine then r else with_mark r p.header.call.activity (SentPacket k)
+recorded r (Sends k p) = if p.from == SERVER_MACHINE then r else with_mark r p.header.call.activity (SentPacket k)
 recorded r (Hears activity k) = with_mark r activity (Heard k)
 recorded r (HasRun run) = record r { journal = r.journal ++ run ∷ [] }
 recorded r (Returns x) = record r { returns = r.returns ++ x ∷ [] }

@@ -1,7 +1,11 @@
 -- The grammar of scripts.
-use Rattle.std.specs.Prelude.{◌≡◌, ℕ, ◌≤◌, List, [], ◌∷◌, map, filter, length, Option, Some, None, Bool, true, false, not, ◌==◌, ◌||◌, nat_eq, if◌then◌else◌, codes}
-use Rattle.std.specs.List.{slice_split, filter_map, AllZip, IsDistinct}
+use Rattle.std.specs.Prelude.{◌≡◌, ℕ, ◌≤◌, List, [], ◌∷◌, map, filter, length, Option, Some, None, Bool, true, false, not, ◌==◌, ◌||◌, ◌&&◌, nat_eq, nat_le, if◌then◌else◌, IsTrue, MatchBool}
+use Rattle.std.specs.List.{slice_split, filter_map, list_all, AllZip, IsDistinct, Contains}
+use Rattle.std.specs.Char.{is_ascii_digit}
 use Rattle.std.specs.Fmt.{decimal}
+use Rattle.binder.specs.Names.{is_name}
+use Rattle.replay_model.specs.Forms.{Place, The, Number, Name, Value, Numeral, Text, Form, forms}
+use Rattle.replay_model.specs.declared.limits.TheConstants.{FIRST_CLIENT, LAST_CLIENT, LAST_PROCESS, LAST_WORKER, LAST_BIT, LARGEST_NUMBER, SMALL_BUFFERS, LONG_BUFFERS}
 use Rattle.replay_model.specs.declared.event.CallWord.{CallWord}
 use Rattle.replay_model.specs.declared.event.CallWord.TheVariants as word
 use Rattle.replay_model.specs.declared.event.Event.{Event}
@@ -25,13 +29,13 @@ without_return [] = []
 without_return (b ∷ []) = if b == 13 then [] else b ∷ []
 without_return (b ∷ c ∷ more) = b ∷ without_return (c ∷ more)
 
--- the parts between newlines as lines: the last has no newline, and is no line where it is empty
+-- the parts between newlines as lines: only the last stands before no newline
 abbrev pub lines_of_parts : List (List ℕ) → List (List ℕ)
 lines_of_parts [] = []
-lines_of_parts (x ∷ []) = if length x == 0 then [] else x ∷ []
+lines_of_parts (x ∷ []) = x ∷ []
 lines_of_parts (x ∷ y ∷ more) = without_return x ∷ lines_of_parts (y ∷ more)
 
--- the lines of a text; each ends with a newline, which the last may lack
+-- the lines of a text, numbered from 1. The last is what stands behind the last newline: where nothing does, it is blank
 abbrev pub lines_of_text : List ℕ → List (List ℕ)
 lines_of_text text = lines_of_parts (slice_split is_newline text)
 
@@ -51,11 +55,7 @@ lines_of_words text = filter (λ (ws : List (List ℕ)). not (is_skipped ws)) (m
 
 -- the largest number of 32 bits
 abbrev pub largest_number : ℕ
-largest_number = 4294967295
-
--- the last bit of the largest frame, which has 1514 bytes
-abbrev pub last_bit : ℕ
-last_bit = 12111
+largest_number = LARGEST_NUMBER
 
 -- n, from low to high, in decimal digits without a leading zero
 pub record IsNumber (w : List ℕ) (low high n : ℕ) : Type 0 where
@@ -63,25 +63,27 @@ pub record IsNumber (w : List ℕ) (low high n : ℕ) : Type 0 where
   pub at_least : low ≤ n
   pub at_most : n ≤ high
 
--- the words spell what a call asks for
-abbrev pub SpellsCall : List (List ℕ) → CallWord → Type 0
-SpellsCall ws word.Null = ws ≡ codes "null" ∷ []
-SpellsCall (first ∷ x ∷ y ∷ []) (word.Add a b) =
-    (first ≡ codes "add") × IsNumber x 0 largest_number a × IsNumber y 0 largest_number b
-SpellsCall _ _ = ⊥
+-- what a word says at its place
+abbrev pub Says : Place → List ℕ → Value → Type 0
+Says (Number low high) w (Numeral n) = IsNumber w low high n
+Says Name w (Text t) = (w ≡ t) × IsTrue (is_name w)
+Says (The text) w (Text t) = (w ≡ t) × (w ≡ text)
+Says _ _ _ = ⊥
 
--- the words of a line spell an event
-abbrev pub Spells : List (List ℕ) → Event → Type 0
-Spells (first ∷ m ∷ p ∷ more) (event.Call machine process asked) =
-    (first ≡ codes "call") × IsNumber m 2 9 machine × IsNumber p 1 8 process × SpellsCall more asked
-Spells (first ∷ k ∷ []) (event.Deliver packet) = (first ≡ codes "deliver") × IsNumber k 1 largest_number packet
-Spells (first ∷ k ∷ b ∷ []) (event.Damage packet bit) =
-    (first ≡ codes "damage") × IsNumber k 1 largest_number packet × IsNumber b 0 last_bit bit
-Spells (first ∷ k ∷ []) (event.Show packet) = (first ≡ codes "show") × IsNumber k 1 largest_number packet
-Spells (first ∷ w ∷ []) (event.Work number) = (first ≡ codes "work") × IsNumber w 1 4 number
-Spells ws event.Journal = ws ≡ codes "journal" ∷ []
-Spells ws event.End = ws ≡ codes "end" ∷ []
-Spells _ _ = ⊥
+abbrev pub AllSay : List Place → List (List ℕ) → List Value → Type 0
+AllSay [] [] [] = Unit {0}
+AllSay (p ∷ ps) (w ∷ ws) (v ∷ vs) = Says p w v × AllSay ps ws vs
+AllSay _ _ _ = ⊥
+
+-- the words of a line spell an event: they are the words of a form that is built, and the event is the form's
+pub record Spells (words : List (List ℕ)) (e : Event) : Type 0 where
+  pub form : Form
+  pub listed : Contains forms form
+  pub values : List Value
+  pub said : AllSay form.places words values
+  pub event : List Value → Event
+  pub built : form.event ≡ Some event
+  pub gives : e ≡ event values
 
 -- the numbers that a call asks with are those that a line can have
 abbrev pub IsAskable : CallWord → Type 0
@@ -90,20 +92,22 @@ IsAskable (word.Add a b) = (a ≤ largest_number) × (b ≤ largest_number)
 
 -- the numbers of an event are those that a line can have
 abbrev pub InRange : Event → Type 0
-InRange (event.Call machine process asked) = (2 ≤ machine) × (machine ≤ 9) × (1 ≤ process) × (process ≤ 8) × IsAskable asked
+InRange (event.Call machine process asked) = (FIRST_CLIENT ≤ machine) × (machine ≤ LAST_CLIENT) × (1 ≤ process) × (process ≤ LAST_PROCESS) × IsAskable asked
 InRange (event.Deliver packet) = (1 ≤ packet) × (packet ≤ largest_number)
-InRange (event.Damage packet bit) = (1 ≤ packet) × (packet ≤ largest_number) × (bit ≤ last_bit)
+InRange (event.Damage packet bit) = (1 ≤ packet) × (packet ≤ largest_number) × (bit ≤ LAST_BIT)
 InRange (event.Show packet) = (1 ≤ packet) × (packet ≤ largest_number)
-InRange (event.Work number) = (1 ≤ number) × (number ≤ 4)
+InRange (event.Work number) = (1 ≤ number) × (number ≤ LAST_WORKER)
 InRange event.Journal = Unit {0}
 InRange event.End = Unit {0}
+
+abbrev pub is_end : Event → Bool
+is_end event.End = true
+is_end _ = false
 
 -- the last event is the end, and no other is
 abbrev pub EndsOnce : List Event → Type 0
 EndsOnce [] = ⊥
-EndsOnce (event.End ∷ []) = Unit {0}
-EndsOnce (event.End ∷ e ∷ es) = ⊥
-EndsOnce (e ∷ es) = EndsOnce es
+EndsOnce (e ∷ es) = MatchBool (is_end e) (es ≡ []) (EndsOnce es)
 
 abbrev pub delivered_packet : Event → Option ℕ
 delivered_packet (event.Deliver k) = Some k
@@ -117,5 +121,5 @@ pub record IsScript (text : List ℕ) (s : Script) : Type 0 where
   -- no two lines deliver the same packet, damaged or not
   pub delivered_once : IsDistinct nat_eq (filter_map delivered_packet s.events)
   -- the numbers of buffers, where no line gives others
-  pub small_is : s.small ≡ 256
-  pub long_is : s.long ≡ 72
+  pub small_is : s.small ≡ SMALL_BUFFERS
+  pub long_is : s.long ≡ LONG_BUFFERS

@@ -12,12 +12,13 @@ use Rattle.call_rules.specs.declared.worker.Unfit.TheVariants as unfit
 use Rattle.replay_model.specs.declared.event.CallWord.{CallWord}
 use Rattle.replay_model.specs.declared.event.Event.{Event}
 use Rattle.replay_model.specs.declared.event.Event.TheVariants as event
+use Rattle.replay_model.specs.declared.limits.TheConstants.{SERVER_MACHINE, FIRST_CLIENT, READY_CELLS}
 use Rattle.replay_model.specs.Service.{Served, served, procedure_of, arguments_of}
 use Rattle.replay_model.specs.declared.discard.Discard.{Discard}
 use Rattle.replay_model.specs.declared.discard.Discard.TheVariants as why
-use Rattle.replay_model.specs.Record.{Act, Impossible, Starts, TooFast, Sends, Readies, Hears, Returns, Discards, Idles, Works, HasRun, Shows, ListsRuns, Ends, counts_of, recorded_all, server_machine}
+use Rattle.replay_model.specs.Record.{Act, Impossible, Starts, TooFast, Sends, Readies, Hears, Returns, Discards, Idles, Works, HasRun, Shows, ListsRuns, Ends, counts_of, recorded_all}
 use Rattle.replay_model.specs.Arrival.{Arrival, Comes, Dropped, arrives, frame_of}
-use Rattle.replay_model.specs.World.{World, Client, Line, numbered, with_numbered, packet_at, first_client, entry_at, with_entry, number_limit}
+use Rattle.replay_model.specs.World.{World, Client, Line, numbered, with_numbered, packet_at, entry_at, with_entry, number_limit}
 
 -- what an event does: the world after it but for its records, and what happens
 pub record Outcome : Type 0 where
@@ -31,7 +32,7 @@ abbrev pub discarded : World → Discard → Outcome
 discarded w why = record { world = w; acts = Discards why ∷ [] }
 
 abbrev pub with_client : World → (machine : ℕ) → Client → World
-with_client w machine c = record w { clients = with_numbered first_client w.clients machine c }
+with_client w machine c = record w { clients = with_numbered FIRST_CLIENT w.clients machine c }
 
 abbrev pub with_line : Client → (process : ℕ) → Line → Client
 with_line c process l = record c { lines = with_numbered 1 c.lines process l }
@@ -42,7 +43,7 @@ with_packet w p = record w { bag = w.bag ++ p ∷ [] }
 -- the first packet of a call that a caller has started
 abbrev pub call_packet : (machine : ℕ) → caller.Caller → List ℕ → Packet
 call_packet machine c arguments =
-    record { from = machine; to = server_machine; header = caller.first_sending c 0; payload = arguments }
+    record { from = machine; to = SERVER_MACHINE; header = caller.first_sending c 0; payload = arguments }
 
 -- the caller of a process that starts what was asked
 abbrev pub started_caller : Line → CallWord → caller.Caller
@@ -82,14 +83,10 @@ unfoldable pub call_event : World → (machine process : ℕ) → Option Client 
 call_event w machine process None asked = impossible w
 call_event w machine process (Some c) asked = call_by w machine process c (numbered 1 c.lines process) asked
 
--- the most packets that are ready at a time
-abbrev pub ready_cells : ℕ
-ready_cells = 64
-
 -- the server takes a packet, or has no room for it
 unfoldable pub server_takes : World → (number : ℕ) → Packet → Outcome
 server_takes w k p =
-    if nat_lt (length w.server.ready) ready_cells
+    if nat_lt (length w.server.ready) READY_CELLS
     then record { world = record w { server = record w.server { ready = w.server.ready ++ p ∷ [] } }; acts = Readies k ∷ [] }
     else discarded w why.NoRoom
 
@@ -120,7 +117,7 @@ client_takes w k p (Some c) = line_takes w k p c (numbered 1 c.lines (p.header.h
 -- packet k has come to its receiver
 unfoldable pub machine_takes : World → (number : ℕ) → Packet → Outcome
 machine_takes w k p =
-    if p.to == server_machine then server_takes w k p else client_takes w k p (numbered first_client w.clients p.to)
+    if p.to == SERVER_MACHINE then server_takes w k p else client_takes w k p (numbered FIRST_CLIENT w.clients p.to)
 
 abbrev pub takes_arrival : World → (number : ℕ) → Arrival → Outcome
 takes_arrival w k (Comes p) = machine_takes w k p
@@ -200,7 +197,7 @@ end_event w = record { world = w; acts = Ends (counts_of w.records) ∷ [] }
 
 -- what each event does
 abbrev pub outcome : World → Event → Outcome
-outcome w (event.Call machine process asked) = call_event w machine process (numbered first_client w.clients machine) asked
+outcome w (event.Call machine process asked) = call_event w machine process (numbered FIRST_CLIENT w.clients machine) asked
 outcome w (event.Deliver k) = deliver_event w k (packet_at w.bag k)
 outcome w (event.Damage k bit) = damage_event w k bit (packet_at w.bag k)
 outcome w (event.Show k) = show_event w k (packet_at w.bag k)

@@ -1,11 +1,14 @@
--- The world: a second, a server, eight clients, every packet that was sent, and the records.
+-- The world: a second, a server, its clients, every packet that was sent, and the records.
 use Rattle.std.specs.Prelude.{ℕ, ◌+◌, ◌-◌, ◌*◌, List, [], ◌∷◌, map, replicate, Option, Some, None, slice_get, slice_set, Bool, ◌&&◌, nat_lt, nat_le, if◌then◌else◌, option_and_then, codes}
+use Rattle.std.specs.List.{range_with_len}
 use Rattle.rpc_header.specs.declared.Activity.{Activity}
 use Rattle.rpc_header.specs.declared.Export.{Export}
 use Rattle.call_rules.specs.Packet.{Packet}
 use Rattle.call_rules.specs.Entry.{Entry, Empty}
 use Rattle.call_rules.specs.Worker.{Worker, Resting}
 use Rattle.call_rules.specs.Caller.{Caller, idle}
+use Rattle.replay_model.specs.declared.limits.TheConstants.{FIRST_CLIENT, LAST_CLIENT, CLIENTS, LAST_PROCESS, LAST_WORKER}
+use Rattle.binder.specs.declared.exports.TheConstants.{EXPORT_ROWS}
 use Rattle.replay_model.specs.Record.{ExportRow, Records, no_records}
 
 -- the exports and the next identifier; the entries of the activities; four workers; the packets that are
@@ -45,9 +48,6 @@ pub record World : Type 0 where
   pub bag : List Packet
   pub records : Records
 
-abbrev pub first_client : ℕ
-first_client = 2
-
 -- the item of this number, in a list whose first item has the number from
 abbrev pub numbered : {A : Type 0} → ℕ → List A → ℕ → Option A
 numbered from xs n = if nat_lt n from then None else slice_get xs (n - from)
@@ -60,14 +60,15 @@ packet_at bag k = numbered 1 bag k
 
 -- the process of a machine
 abbrev pub line_at : List Client → (machine process : ℕ) → Option Line
-line_at clients machine process = option_and_then (λ (c : Client). numbered 1 c.lines process) (numbered first_client clients machine)
+line_at clients machine process = option_and_then (λ (c : Client). numbered 1 c.lines process) (numbered FIRST_CLIENT clients machine)
 
 -- there is one entry for each process of each client
 abbrev pub is_entry_activity : Activity → Bool
-is_entry_activity a = nat_le 2 a.machine && nat_le a.machine 9 && nat_le 1 a.process && nat_le a.process 8
+is_entry_activity a =
+    nat_le FIRST_CLIENT a.machine && nat_le a.machine LAST_CLIENT && nat_le 1 a.process && nat_le a.process LAST_PROCESS
 
 abbrev pub entry_place : Activity → ℕ
-entry_place a = 8 * (a.machine - 2) + (a.process - 1)
+entry_place a = LAST_PROCESS * (a.machine - FIRST_CLIENT) + (a.process - 1)
 
 abbrev pub entry_at : List Entry → Activity → Option Entry
 entry_at entries a = if is_entry_activity a then slice_get entries (entry_place a) else None
@@ -98,10 +99,10 @@ booted_server small long boot =
       long = long;
       boot = boot;
       read = boot;
-      rows = Some (main_row boot) ∷ replicate 15 None;
+      rows = Some (main_row boot) ∷ replicate (EXPORT_ROWS - 1) None;
       next = boot + 1;
-      entries = replicate 64 Empty;
-      workers = replicate 4 Resting;
+      entries = replicate (CLIENTS * LAST_PROCESS) Empty;
+      workers = replicate LAST_WORKER Resting;
       ready = [];
       total = 0;
     }
@@ -122,7 +123,7 @@ booted_client boot machine =
     record {
       boot = boot;
       read = boot;
-      lines = map (booted_line boot machine) (1 ∷ 2 ∷ 3 ∷ 4 ∷ 5 ∷ 6 ∷ 7 ∷ 8 ∷ []);
+      lines = map (booted_line boot machine) (range_with_len 1 LAST_PROCESS);
     }
 
 -- the world begins at second 1, in which all its machines boot
@@ -131,7 +132,7 @@ first_world small long =
     record {
       second = 1;
       server = booted_server small long 1;
-      clients = map (booted_client 1) (2 ∷ 3 ∷ 4 ∷ 5 ∷ 6 ∷ 7 ∷ 8 ∷ 9 ∷ []);
+      clients = map (booted_client 1) (range_with_len FIRST_CLIENT CLIENTS);
       bag = [];
       records = no_records;
     }

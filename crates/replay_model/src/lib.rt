@@ -10,10 +10,14 @@ mod discard;
 mod event;
 mod laws;
 pub mod limits;
+mod line_laws;
+mod text_fault;
 
 pub use discard::Discard;
 pub use event::{ADD, CallWord, Event, NULL};
 pub use laws::fields_are_a_header;
+pub use line_laws::acts_print_whole_lines;
+pub use text_fault::TextFault;
 
 #[cfg(test)]
 mod tests;

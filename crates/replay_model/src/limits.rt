@@ -1,6 +1,7 @@
 //! The numbers of things in the world that a script is played on, and the ranges of a script's numbers. Each stands
 //! here once: the definitions cite it, and so does the code of the parser and of the player.
 
+pub use binder::EXPORT_ROWS;
 use udp_frames::LARGEST_FRAME;
 
 /// The server's machine.
@@ -12,6 +13,9 @@ pub const FIRST_CLIENT: u8 = 2;
 /// The last client's machine.
 pub const LAST_CLIENT: u8 = 9;
 
+/// How many clients there are.
+pub const CLIENTS: u8 = LAST_CLIENT - FIRST_CLIENT + 1;
+
 /// The last process of a client. Processes are numbered from 1.
 pub const LAST_PROCESS: u8 = 8;
 
@@ -21,9 +25,6 @@ pub const LAST_WORKER: u8 = 4;
 /// The most packets that are ready at the server.
 pub const READY_CELLS: usize = 64;
 
-/// The rows of a server's exports.
-pub const EXPORT_ROWS: usize = 16;
-
 /// The server's number of small buffers, where a script gives no other.
 pub const SMALL_BUFFERS: usize = 256;
 
@@ -32,3 +33,6 @@ pub const LONG_BUFFERS: usize = 72;
 
 /// The last bit of the largest frame. Bits are numbered from 0.
 pub const LAST_BIT: u16 = (8 * LARGEST_FRAME - 1) as u16;
+
+/// The largest number of a script, where a line wants no smaller one.
+pub const LARGEST_NUMBER: u32 = u32::MAX;

@@ -8,7 +8,11 @@ ghost use Rattle.replay_model.specs.Arrival.{Comes, Dropped, arrival_of};
 ghost use Rattle.replay_model.specs.Lines.{newline};
 ghost use Rattle.replay_model.specs.declared.discard.Discard.TheVariants as why;
 ghost use Rattle.replay_model.specs.Service.{served};
-ghost use Rattle.replay_model.specs.Examples.{packet_from};
+ghost use Rattle.call_rules.specs.declared.worker.Did.TheVariants as did;
+ghost use Rattle.call_rules.specs.declared.worker.Unfit.TheVariants as unfit;
+ghost use Rattle.replay_model.specs.Record.{Discards, Readies, Works};
+ghost use Rattle.replay_model.specs.Step.{machine_takes, claims_next};
+ghost use Rattle.replay_model.specs.Examples.{packet_from, with_hint, with_fragment, waiting_world, ready_world};
 ghost use Rattle.replay_model.specs.Transcript.{transcript};
 
 fn lines_of_the_empty_call()
@@ -167,6 +171,21 @@ fn arrivals_by_kind_and_machine()
     ensures signal { arrival_of 2 (packet_from 1 2 kind.Signal 2) ≡ Comes (packet_from 1 2 kind.Signal 2) }
 {}
 
+/// A packet ends at a client where its hint names no process, where the process waits for none of its number, and
+/// where the process has no use for it.
+fn drops_at_a_client()
+    ensures no_cell { (machine_takes waiting_world 2 (with_hint 8 (packet_from 1 2 kind.Result 2))).acts ≡ Discards why.NoCell ∷ [] }
+    ensures stale { (machine_takes waiting_world 2 (with_hint 1 (packet_from 1 2 kind.Result 2))).acts ≡ Discards why.Stale ∷ [] }
+    ensures unused { (machine_takes waiting_world 2 (with_fragment 1 (packet_from 1 2 kind.Result 2))).acts ≡ Discards why.Unused ∷ [] }
+{}
+
+/// The server has room for 64 ready packets. A worker that takes a packet of an activity without an entry drops it.
+fn drops_at_the_server()
+    ensures last_cell { (machine_takes (ready_world 63) 1 (packet_from 2 1 kind.Call 2)).acts ≡ Readies 1 ∷ [] }
+    ensures no_room { (machine_takes (ready_world 64) 1 (packet_from 2 1 kind.Call 2)).acts ≡ Discards why.NoRoom ∷ [] }
+    ensures full { (claims_next waiting_world 3 (packet_from 10 1 kind.Call 10 ∷ [])).acts ≡ Works 3 65536 (did.Drops unfit.Full) ∷ [] }
+{}
+
 #[test]
 fn rows_are_computed() {
     lines_of_the_empty_call();
@@ -180,4 +199,6 @@ fn rows_are_computed() {
     lines_of_damages();
     answers_of_the_service();
     arrivals_by_kind_and_machine();
+    drops_at_a_client();
+    drops_at_the_server();
 }

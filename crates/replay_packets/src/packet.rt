@@ -9,13 +9,16 @@ ghost use Rattle.replay_packets.specs.Packet.{packet_of};
 use crate::sent::Outgoing;
 use ff_io::Station;
 use replay_model::Discard;
+use replay_model::limits::SERVER_MACHINE;
 use rpc_header::{Header, Kind, MAX_DATA, read_header};
 use std::alloc::{AllocError, Global};
 use std::marker::Model;
 use udp_frames::read_frame;
 
 /// The machine that clients call: machine 1.
-pub const SERVER: Station = Station { machine: 1 };
+pub const SERVER: Station = Station {
+    machine: SERVER_MACHINE,
+};
 
 /// A packet that was read, whose data stands in its frame.
 #[derive(Clone, Copy)]

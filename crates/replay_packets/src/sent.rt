@@ -122,7 +122,7 @@ fn framed(
 /// The room for the headers of a frame, and behind it what the frame carries.
 fn unframed(alloc: Global, header: &Header, payload: &[u8]) -> Result<Vec<u8>, AllocError>
     requires { HasSpelling header.now (length payload.now) }
-    ensures { IfOk result (λ v. v.items ≡ replicate 42 0 ++ (spelling header.now (length payload.now) ++ payload.now)) }
+    ensures { IfOk result (λ v. v.items ≡ replicate HEADERS_LEN 0 ++ (spelling header.now (length payload.now) ++ payload.now)) }
 {
     let mut spelled = [0; HEADER_LEN];
     write_header(header, payload.len(), &mut spelled);

@@ -8,16 +8,17 @@ use Rattle.std.proofs.lemmas.Bool.{cond-true, cond-false}
 use Rattle.rpc_header.specs.declared.Activity.{Activity}
 use Rattle.call_rules.specs.Packet.{Call, Packet}
 use Rattle.call_rules.specs.Worker.{Run}
-use Rattle.replay_model.specs.Record.{Act, Records, Counts, Start, Return, Starts, Sends, Hears, HasRun, Returns, counts_of, recorded, with_mark, SentPacket, server_machine}
+use Rattle.replay_model.specs.declared.limits.TheConstants.{SERVER_MACHINE}
+use Rattle.replay_model.specs.Record.{Act, Records, Counts, Start, Return, Starts, Sends, Hears, HasRun, Returns, counts_of, recorded, with_mark, SentPacket}
 use Rattle.replay_model.specs.World.{World, numbered, packet_at}
 use Rattle.replay_model.specs.declared.event.Event.{Event}
 use Rattle.replay_model.specs.Step.{Outcome, outcome, step}
 use Rattle.replay_model.specs.Transcript.{lines}
 use Rattle.replay_model.specs.Lines.{lines_of_act}
-use Rattle.replay_lines.specs.Digests.{RunDigest, run_digest}
+use Rattle.replay_model.specs.Digests.{RunDigest, run_digest}
 use Rattle.replay_lines.specs.Counts.{counts_run, counts_return}
 use Rattle.replay_packets.specs.Sent.{SentFrame, sent_of}
-use Rattle.replay_world.specs.Stored.{Stored, stored_of}
+use Rattle.replay_world.specs.Stored.{Stored, RoseByAtMost, stored_of}
 use Rattle.replay_world.specs.Stands.{Stands}
 use Rattle.replay_world.specs.Played.{world_with, Keeps, Plays}
 use Rattle.replay_world.proofs.Numbered.{numbered-some, numbered-mapped}
@@ -76,7 +77,7 @@ keeps_either false s bag r1 r2 k1 k2 = k2
 
 pub keeps_sent : (s : Stored) (bag : List Packet) (r : Records) (n : ℕ) (p : Packet) → Keeps s bag r → Keeps s bag (recorded r (Sends n p))
 keeps_sent s bag r n p k =
-    keeps_either (p.from == server_machine) s bag r (with_mark r p.header.call.activity (SentPacket n)) k
+    keeps_either (p.from == SERVER_MACHINE) s bag r (with_mark r p.header.call.activity (SentPacket n)) k
     (record { frames = k.frames; runs = k.runs; counts = k.counts })
 
 pub keeps_run : (s : Stored) (bag : List Packet) (r : Records) (run : Run) → Keeps s bag r → Keeps (record s { runs = s.runs ++ run_digest run ∷ []; counts = counts_run s.counts }) bag (recorded r (HasRun run))
@@ -127,3 +128,9 @@ applied {T} {E} result before after s new w e stands h =
     let Played : Stored → Type 0 = λ x. (bag : List Packet) (r : Records) → Keeps x bag r → OnOk result (Plays before after new r (outcome (world_with x bag r) e)) in
     on_ok_weaker result (λ p. (p.printed, record { agrees = p.stored }))
     (subst Played stands.agrees h w.bag w.records (record { frames = refl; runs = refl; counts = refl }))
+
+-- what has risen by at most one has risen by at most a thousand
+pub rose_more : {T E : Type 0} (result : Result T E) (old new : Stored) → OnOk result (RoseByAtMost 1 old new) → OnOk result (RoseByAtMost 1000 old new)
+rose_more {T} {E} result old new h =
+    on_ok_weaker result (λ (p : RoseByAtMost 1 old new).
+    (omega (arith, p.0), (omega (arith, p.1.0), omega (arith, p.1.1), omega (arith, p.1.2), omega (arith, p.1.3), omega (arith, p.1.4)))) h

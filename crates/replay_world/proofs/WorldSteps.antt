@@ -4,16 +4,17 @@ use Rattle.std.specs.Prelude.{nat_lt}
 use Rattle.std.proofs.lemmas.Bool.{cond-true, cond-false, eq-eqb, ne_eqb, le-ltb, lt-ltb}
 use Rattle.udp_frames.specs.Damage.{flipped}
 use Rattle.call_rules.specs.Packet.{Packet}
+use Rattle.replay_model.specs.declared.limits.TheConstants.{SERVER_MACHINE, FIRST_CLIENT, READY_CELLS}
 use Rattle.replay_model.specs.declared.event.CallWord.{CallWord}
 use Rattle.replay_model.specs.declared.discard.Discard.TheVariants as why
-use Rattle.replay_model.specs.Record.{Counts, Readies, Shows, counts_of, no_records, server_machine}
-use Rattle.replay_model.specs.World.{World, Server, Client, numbered, first_client, booted_server, first_world}
+use Rattle.replay_model.specs.Record.{Counts, Readies, Shows, counts_of, no_records}
+use Rattle.replay_model.specs.World.{World, Server, Client, numbered, booted_server, first_world}
 use Rattle.replay_model.specs.Arrival.{frame_of}
-use Rattle.replay_model.specs.Step.{impossible, discarded, call_by, call_event, server_takes, ready_cells, client_takes, machine_takes, receives, deliver_event, damage_event, show_event}
+use Rattle.replay_model.specs.Step.{impossible, discarded, call_by, call_event, server_takes, client_takes, machine_takes, receives, deliver_event, damage_event, show_event}
 use Rattle.replay_world.specs.declared.client.Took.{Took}
 use Rattle.replay_world.specs.declared.client.Took.TheVariants as took
 use Rattle.replay_world.specs.Client.{took_outcome, took_in, KeepsMissed}
-use Rattle.replay_lines.specs.Digests.{RunDigest}
+use Rattle.replay_model.specs.Digests.{RunDigest}
 use Rattle.replay_packets.specs.Sent.{SentFrame}
 use Rattle.replay_world.specs.Stands.{Stands}
 use Rattle.replay_world.proofs.Numbered.{set-same}
@@ -52,13 +53,13 @@ show_event-none w k o h = ap (show_event w k) h
 pub show_event-some : (w : World) (k : ℕ) (o : Option Packet) (p : Packet) → o ≡ Some p → show_event w k o ≡ record { world = w; acts = Shows k (frame_of p) ∷ [] }
 show_event-some w k o p h = ap (show_event w k) h
 
-pub machine_takes-server : (w : World) (k : ℕ) (p : Packet) → p.to ≡ server_machine → machine_takes w k p ≡ server_takes w k p
+pub machine_takes-server : (w : World) (k : ℕ) (p : Packet) → p.to ≡ SERVER_MACHINE → machine_takes w k p ≡ server_takes w k p
 unfolding machine_takes
-machine_takes-server w k p to = cond-true _ _ _ (eq-eqb p.to server_machine to)
+machine_takes-server w k p to = cond-true _ _ _ (eq-eqb p.to SERVER_MACHINE to)
 
-pub machine_takes-client : (w : World) (k : ℕ) (p : Packet) → (p.to ≡ server_machine → ⊥) → machine_takes w k p ≡ client_takes w k p (numbered first_client w.clients p.to)
+pub machine_takes-client : (w : World) (k : ℕ) (p : Packet) → (p.to ≡ SERVER_MACHINE → ⊥) → machine_takes w k p ≡ client_takes w k p (numbered FIRST_CLIENT w.clients p.to)
 unfolding machine_takes
-machine_takes-client w k p to = cond-false _ _ _ (ne_eqb p.to server_machine to)
+machine_takes-client w k p to = cond-false _ _ _ (ne_eqb p.to SERVER_MACHINE to)
 
 pub client_takes-nobody : (w : World) (k : ℕ) (p : Packet) (o : Option Client) → o ≡ None → client_takes w k p o ≡ discarded w why.NoCell
 unfolding client_takes
@@ -71,11 +72,11 @@ took-by w xs j k p c new took.Stale to at keep = ap (λ (ys : List Client). disc
 took-by w xs j k p c new took.Unused to at keep = ap (λ (ys : List Client). discarded (record w { clients = ys }) why.Unused) (sym (ap (λ (x : Client). set xs j x) keep ∙ set-same xs j c at))
 took-by w xs j k p c new (took.Returned signal) to at keep = ap (λ (i : ℕ). took_in (record w { clients = set xs i new }) k p (took.Returned signal)) (sym to)
 
-pub server_takes-room : (w : World) (k : ℕ) (p : Packet) → nat_lt (length w.server.ready) ready_cells ≡ true → server_takes w k p ≡ record { world = record w { server = record w.server { ready = w.server.ready ++ p ∷ [] } }; acts = Readies k ∷ [] }
+pub server_takes-room : (w : World) (k : ℕ) (p : Packet) → nat_lt (length w.server.ready) READY_CELLS ≡ true → server_takes w k p ≡ record { world = record w { server = record w.server { ready = w.server.ready ++ p ∷ [] } }; acts = Readies k ∷ [] }
 unfolding server_takes
 server_takes-room w k p h = cond-true _ _ _ h
 
-pub server_takes-full : (w : World) (k : ℕ) (p : Packet) → nat_lt (length w.server.ready) ready_cells ≡ false → server_takes w k p ≡ discarded w why.NoRoom
+pub server_takes-full : (w : World) (k : ℕ) (p : Packet) → nat_lt (length w.server.ready) READY_CELLS ≡ false → server_takes w k p ≡ discarded w why.NoRoom
 unfolding server_takes
 server_takes-full w k p h = cond-false _ _ _ h
 

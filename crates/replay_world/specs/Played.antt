@@ -5,7 +5,7 @@ use Rattle.replay_model.specs.Record.{Records, counts_of, recorded_all}
 use Rattle.replay_model.specs.World.{World}
 use Rattle.replay_model.specs.Step.{Outcome}
 use Rattle.replay_model.specs.Lines.{lines_of}
-use Rattle.replay_lines.specs.Digests.{run_digest}
+use Rattle.replay_model.specs.Digests.{run_digest}
 use Rattle.replay_packets.specs.Sent.{sent_of}
 use Rattle.replay_world.specs.Stored.{Stored, stored_of}
 

@@ -10,7 +10,7 @@ use Rattle.replay_model.specs.Service.{served}
 use Rattle.replay_model.specs.Step.{Outcome, impossible, with_packet}
 use Rattle.replay_world.specs.declared.server.Worked.{Worked}
 use Rattle.replay_world.specs.declared.server.Worked.TheVariants as worked
-use Rattle.replay_lines.specs.Digests.{run_digest}
+use Rattle.replay_model.specs.Digests.{run_digest}
 use Rattle.call_rules.specs.declared.worker.Did.{Did}
 use Rattle.call_rules.specs.declared.worker.Did.TheVariants as did
 use Rattle.call_rules.specs.declared.worker.Unfit.TheVariants as unfit

@@ -1,9 +1,9 @@
 -- What the player's world stores: the model's world with the frames of its packets, and without its records, but
 -- for digests of the runs and the counts.
-use Rattle.std.specs.Prelude.{ℕ, ◌+◌, ◌≤◌, List, map, length}
+use Rattle.std.specs.Prelude.{ℕ, ◌+◌, ◌<◌, ◌≤◌, List, map, length}
 use Rattle.replay_model.specs.Record.{Counts, counts_of}
 use Rattle.replay_model.specs.World.{World, Server, Client}
-use Rattle.replay_lines.specs.Digests.{RunDigest, run_digest}
+use Rattle.replay_model.specs.Digests.{RunDigest, run_digest}
 use Rattle.replay_packets.specs.Sent.{SentFrame, sent_of}
 
 pub record Stored : Type 0 where
@@ -25,14 +25,18 @@ stored_of w =
       counts = counts_of w.records;
     }
 
--- the counts together
-abbrev pub total_count : Counts → ℕ
-total_count c = c.runs + c.returned + c.signalled + c.failed + c.refused
+-- the number of packets and each of the counts is below n
+abbrev pub AllBelow : (n : ℕ) → Stored → Type 0
+AllBelow n s =
+    (length s.bag < n) × (s.counts.runs < n) × (s.counts.returned < n) × (s.counts.signalled < n) × (s.counts.failed < n)
+    × (s.counts.refused < n)
 
--- together the counts have risen by at most one
-abbrev pub RoseByAtMostOne : Counts → Counts → Type 0
-RoseByAtMostOne old new = total_count new ≤ total_count old + 1
+-- each of the counts has risen by at most n
+abbrev pub CountsRose : (n : ℕ) → Counts → Counts → Type 0
+CountsRose n old new =
+    (new.runs ≤ old.runs + n) × (new.returned ≤ old.returned + n) × (new.signalled ≤ old.signalled + n)
+    × (new.failed ≤ old.failed + n) × (new.refused ≤ old.refused + n)
 
--- how many packets were sent, and the counts, together
-abbrev pub load : Stored → ℕ
-load s = length s.bag + total_count s.counts
+-- the number of packets and each of the counts has risen by at most n
+abbrev pub RoseByAtMost : (n : ℕ) → Stored → Stored → Type 0
+RoseByAtMost n old new = (length new.bag ≤ length old.bag + n) × CountsRose n old.counts new.counts

@@ -11,9 +11,9 @@ use crate::service::{arguments_of, procedure_of};
 use caller_core::{Action, Caller};
 use ff_io::Station;
 use replay_model::CallWord;
+use replay_model::limits::LAST_PROCESS;
 use replay_packets::{Arrived, Outgoing, SERVER};
 use rpc_header::{Activity, CallNumber, Export, number};
-use script_text::{FIRST_CLIENT, LAST_CLIENT, LAST_PROCESS};
 use std::alloc::{AllocError, Global};
 use std::marker::Model;
 
@@ -22,9 +22,6 @@ const FIRST_BINDING: Export = Export {
     identifier: 1,
     index: 0,
 };
-
-/// How many clients there are.
-pub const CLIENTS: u8 = LAST_CLIENT - FIRST_CLIENT + 1;
 
 /// The first call number of each second is the second times this.
 const NUMBERS_A_SECOND: u64 = 1 << 16;

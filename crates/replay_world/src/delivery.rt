@@ -9,16 +9,16 @@ ghost use Rattle.replay_world.specs.Client.{took_in};
 ghost use Rattle.replay_world.specs.Delivery.{TakenAs, IsShort};
 ghost use Rattle.replay_packets.specs.Packet.{packet_of};
 ghost use Rattle.replay_world.specs.Played.{world_with, Keeps, Plays};
-ghost use Rattle.replay_world.specs.Stored.{Stored, RoseByAtMostOne};
+ghost use Rattle.replay_world.specs.Stored.{Stored, CountsRose};
 
 use crate::client::{ClientMachine, Took};
 use crate::server::ServerMachine;
 use ff_io::Station;
 use replay_lines::{Counts, put_discard, put_ready, put_return};
 use replay_model::Discard;
+use replay_model::limits::FIRST_CLIENT;
 use replay_packets::{Arrived, SERVER, arrive};
 use rpc_header::{CallId, MAX_DATA};
-use script_text::FIRST_CLIENT;
 use std::alloc::{AllocError, Global};
 
 /// What becomes of a frame that comes to a machine.
@@ -81,7 +81,7 @@ fn hand_to_client<'a>(clients: &mut Vec<ClientMachine>, packet: &Arrived<'a>) ->
     requires { length packet.now.payload.now ≤ MAX_DATA }
     ensures outcome { (w : model.World) (k : ℕ) → TakenAs (record w { clients = clients.new.items }) k result
         (step.client_takes (record w { clients = clients.old.items }) k (packet_of packet.now)
-        (model.numbered model.first_client clients.old.items packet.now.to.machine)) }
+        (model.numbered FIRST_CLIENT clients.old.items packet.now.to.machine)) }
     ensures short { IsShort result }
 {
     match take_at_client(clients, packet) {
@@ -99,7 +99,7 @@ fn hand_to_client<'a>(clients: &mut Vec<ClientMachine>, packet: &Arrived<'a>) ->
 /// The client that a packet goes to takes it.
 fn take_at_client(clients: &mut Vec<ClientMachine>, packet: &Arrived) -> Took
     ensures { (w : model.World) (k : ℕ) → step.client_takes (record w { clients = clients.old.items }) k (packet_of packet.now)
-        (model.numbered model.first_client clients.old.items packet.now.to.machine)
+        (model.numbered FIRST_CLIENT clients.old.items packet.now.to.machine)
         ≡ took_in (record w { clients = clients.new.items }) k (packet_of packet.now) result }
 {
     let machine = packet.to.machine;
@@ -116,7 +116,6 @@ fn take_at_client(clients: &mut Vec<ClientMachine>, packet: &Arrived) -> Took
 
 /// Counts and prints what became of packet `number`.
 pub fn tell(
-    alloc: Global,
     counts: &mut Counts,
     number: u32,
     taken: Taken,
@@ -127,10 +126,10 @@ pub fn tell(
     requires short { IsShort taken }
     ensures played { (s : Stored) (bag : List packets.Packet) (r : Records) (o : step.Outcome) → Keeps (record s { counts = counts.old }) bag r
         → TakenAs (world_with s bag r) number taken.entry o → OnOk result (Plays out.old.items out.new.items (record s { counts = counts.new }) r o) }
-    ensures load { OnOk result (RoseByAtMostOne counts.old counts.new) }
+    ensures few { OnOk result (CountsRose 1 counts.old counts.new) }
 {
     match taken {
-        Taken::Readied => put_ready(alloc, out, number),
+        Taken::Readied => put_ready(out, number),
         Taken::Dropped(why) => put_discard(out, why),
         Taken::Returned {
             call,
@@ -138,7 +137,7 @@ pub fn tell(
             reply,
         } => {
             counts.count_return(signal);
-            put_return(alloc, out, call, signal, reply)
+            put_return(out, call, signal, reply)
         }
     }
 }

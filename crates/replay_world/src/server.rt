@@ -1,29 +1,25 @@
 //! The server machine.
 
-ghost use Rattle.std.specs.Prelude.{◌≡◌, ◌≤◌, ◌+◌, ◌<◌, ◌^◌, [], ◌∷◌, ◌++◌, length, Some, None, unwrap_or, replicate, nat_lt, IfOk, MatchOption, if◌then◌else◌};
+ghost use Rattle.std.specs.Prelude.{◌≡◌, ◌≤◌, ◌+◌, ◌-◌, ◌*◌, ◌<◌, ◌^◌, [], ◌∷◌, ◌++◌, length, Some, None, unwrap_or, replicate, nat_lt, IfOk, MatchOption, if◌then◌else◌};
 ghost use Rattle.call_rules.specs.Entry as entry;
 ghost use Rattle.call_rules.specs.Worker as rules;
 ghost use Rattle.replay_model.specs.World as model;
 ghost use Rattle.replay_model.specs.World.{World, numbered};
 ghost use Rattle.replay_model.specs.Step as step;
 
-use crate::client::CLIENTS;
 use crate::entry::Entry;
 use crate::service::{Answer, serve};
 use crate::worker::{Worker, WorkerState, unfit_for};
 use call_rules::{Did, Seen, Unfit, judge};
 use replay_lines::RunLine;
+use replay_model::limits::{
+    CLIENTS, EXPORT_ROWS, FIRST_CLIENT, LAST_CLIENT, LAST_PROCESS, LAST_WORKER, READY_CELLS,
+};
 use replay_packets::{Arrived, Outgoing, Packet};
 use rpc_header::{Activity, Header, MAX_DATA};
-use script_text::{FIRST_CLIENT, LAST_CLIENT, LAST_PROCESS, LAST_WORKER};
 use std::alloc::{AllocError, Global};
 use std::collections::VecDeque;
 use std::marker::Model;
-
-/// The most packets that are ready at a time.
-const READY_CELLS: usize = 64;
-
-const EXPORT_ROWS: usize = 16;
 
 /// An interface that the server exports.
 #[derive(Drop)]
@@ -132,7 +128,7 @@ impl ServerMachine {
     /// Takes a packet to the ready ones, and answers whether there was room for it.
     pub fn take(&mut self, alloc: Global, packet: &Arrived) -> Result<bool, AllocError>
         requires { length packet.now.payload.now ≤ MAX_DATA }
-        ensures room { IfOk result (λ has_room. has_room ≡ nat_lt (length self.old.ready) step.ready_cells) }
+        ensures room { IfOk result (λ has_room. has_room ≡ nat_lt (length self.old.ready) READY_CELLS) }
         ensures ready { IfOk result (λ has_room. self.new
             ≡ (if has_room then record self.old { ready = self.old.ready ++ packet_of packet.now ∷ [] } else self.old)) }
     {
@@ -325,7 +321,7 @@ fn dropped(number: u64, why: Unfit) -> (WorkerState, Worked)
 
 /// The exports of a server that has booted.
 fn boot_rows(alloc: Global, boot: u32) -> Result<Vec<Option<ExportRow>>, AllocError>
-    ensures { IfOk result (λ rows. rows.items ≡ Some (model.main_row boot) ∷ replicate 15 None) }
+    ensures { IfOk result (λ rows. rows.items ≡ Some (model.main_row boot) ∷ replicate (EXPORT_ROWS - 1) None) }
 {
     let mut rows = Vec::new(alloc);
     rows.push(Some(ExportRow::main(alloc, boot)?))?;
@@ -336,7 +332,7 @@ fn boot_rows(alloc: Global, boot: u32) -> Result<Vec<Option<ExportRow>>, AllocEr
 }
 
 fn boot_entries(alloc: Global) -> Result<Vec<Entry>, AllocError>
-    ensures { IfOk result (λ entries. entries.items ≡ replicate 64 entry.Empty) }
+    ensures { IfOk result (λ entries. entries.items ≡ replicate (CLIENTS * LAST_PROCESS) entry.Empty) }
 {
     let mut entries = Vec::new(alloc);
     for _entry in 0..CLIENTS * LAST_PROCESS {
@@ -346,7 +342,7 @@ fn boot_entries(alloc: Global) -> Result<Vec<Entry>, AllocError>
 }
 
 fn boot_workers(alloc: Global) -> Result<Vec<Worker>, AllocError>
-    ensures { IfOk result (λ workers. workers.items ≡ replicate 4 rules.Resting) }
+    ensures { IfOk result (λ workers. workers.items ≡ replicate LAST_WORKER rules.Resting) }
 {
     let mut workers = Vec::new(alloc);
     for _worker in 0..LAST_WORKER {

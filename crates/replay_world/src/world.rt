@@ -10,11 +10,11 @@ ghost use Rattle.replay_model.specs.Lines.{lines_of_act};
 ghost use Rattle.replay_model.specs.Transcript.{lines};
 ghost use Rattle.replay_model.specs.Script.{InRange};
 ghost use Rattle.replay_packets.specs.Sent.{sent_of};
-ghost use Rattle.replay_world.specs.Stored.{load};
+ghost use Rattle.replay_world.specs.Stored.{AllBelow, RoseByAtMost};
 ghost use Rattle.replay_world.specs.Stands.{Stands};
 ghost use Rattle.replay_world.specs.Played.{world_with, Keeps, Plays};
 
-use crate::client::{CLIENTS, Called, ClientMachine};
+use crate::client::{Called, ClientMachine};
 use crate::delivery::{hand_over, tell};
 use crate::server::{ServerMachine, Worked};
 use call_rules::Did;
@@ -23,9 +23,9 @@ use replay_lines::{
     Counts, RunLine, put_end, put_frame, put_idle, put_impossible, put_packet, put_runs, put_start,
     put_too_fast, put_work,
 };
+use replay_model::limits::{CLIENTS, FIRST_CLIENT, LAST_CLIENT};
 use replay_model::{CallWord, Event};
 use replay_packets::{Outgoing, Sent};
-use script_text::FIRST_CLIENT;
 use std::alloc::{AllocError, Global};
 use std::marker::Model;
 
@@ -58,7 +58,8 @@ impl World {
         requires small { (2 ≤ small) × (small ≤ 3000) }
         requires long { long ≤ 1000 }
         ensures stands { IfOk result (λ world. Stands world (model.first_world small long)) }
-        ensures load { IfOk result (λ world. load world ≡ 0) }
+        ensures no_packet { IfOk result (λ world. world.bag ≡ []) }
+        ensures no_count { IfOk result (λ world. world.counts ≡ act.counts_of act.no_records) }
     {
         Ok(World {
             second: FIRST_SECOND,
@@ -78,10 +79,10 @@ impl World {
         out: &mut Vec<u8>,
     ) -> Result<(), AllocError>
         requires in_range { InRange event.now }
-        requires few { load self.old < 2 ^ 62 }
+        requires few { AllBelow (2 ^ 62) self.old }
         ensures step { (w : model.World) → Stands self.old w
             → OnOk result ((out.new.items ≡ out.old.items ++ lines w event.now) × Stands self.new (step.step w event.now)) }
-        ensures load { OnOk result (load self.new ≤ load self.old + 1000) }
+        ensures few { OnOk result (RoseByAtMost 1000 self.old self.new) }
     {
         match *event {
             Event::Call {
@@ -91,10 +92,10 @@ impl World {
             } => self.call(alloc, machine, process, word, out),
             Event::Deliver(packet) => self.deliver(alloc, packet, out),
             Event::Damage { packet, bit } => self.damage(alloc, packet, bit, out),
-            Event::Show(packet) => self.show(alloc, packet, out),
+            Event::Show(packet) => self.show(packet, out),
             Event::Work(worker) => self.work(alloc, worker, out),
-            Event::Journal => put_runs(alloc, out, self.runs.as_slice()),
-            Event::End => put_end(alloc, out, &self.counts),
+            Event::Journal => put_runs(out, self.runs.as_slice()),
+            Event::End => put_end(out, &self.counts),
         }
     }
 
@@ -107,12 +108,12 @@ impl World {
         word: CallWord,
         out: &mut Vec<u8>,
     ) -> Result<(), AllocError>
-        requires machine { (2 ≤ machine) × (machine ≤ 9) }
+        requires machine { (FIRST_CLIENT ≤ machine) × (machine ≤ LAST_CLIENT) }
         requires process { 1 ≤ process }
-        requires few { load self.old < 2 ^ 62 }
+        requires few { AllBelow (2 ^ 62) self.old }
         ensures played { (bag : List Packet) (r : Records) → Keeps self.old bag r → OnOk result (Plays out.old.items out.new.items self.new r
-            (step.call_event (world_with self.old bag r) machine process (model.numbered model.first_client self.old.clients machine) word)) }
-        ensures load { OnOk result (load self.new ≤ load self.old + 1) }
+            (step.call_event (world_with self.old bag r) machine process (model.numbered FIRST_CLIENT self.old.clients machine) word)) }
+        ensures few { OnOk result (RoseByAtMost 1 self.old self.new) }
     {
         let place = usize::from(machine - FIRST_CLIENT);
         if place >= self.clients.len() {
@@ -122,22 +123,29 @@ impl World {
         let me = Station { machine };
         match client.call(alloc, me, process, word, self.second)? {
             Called::Impossible => put_impossible(out),
-            Called::TooFast(number) => put_too_fast(alloc, out, number, self.second),
+            Called::TooFast(number) => put_too_fast(out, number, self.second),
             Called::Starts(packet) => {
-                put_start(alloc, out, packet.header().call)?;
-                self.send(alloc, packet, out)
+                put_start(out, packet.header().call)?;
+                self.send(packet, out)
             }
         }
     }
 
     /// Sends a packet.
-    fn send(&mut self, alloc: Global, packet: Outgoing, out: &mut Vec<u8>) -> Result<(), AllocError>
+    fn send(&mut self, packet: Outgoing, out: &mut Vec<u8>) -> Result<(), AllocError>
         requires { length self.old.bag < 2 ^ 62 }
         ensures bag { OnOk result (self.new ≡ record self.old { bag = self.old.bag ++ sent_of packet ∷ [] }) }
         ensures printed { OnOk result (out.new.items ≡ out.old.items ++ lines_of_act (act.Sends (length self.old.bag + 1) packet)) }
     {
         let number = self.bag.len() + 1;
-        put_packet(alloc, out, number, &packet)?;
+        put_packet(
+            out,
+            number,
+            packet.from().machine,
+            packet.to().machine,
+            packet.header(),
+            packet.payload_len(),
+        )?;
         self.bag.push(packet.sent())?;
         Ok(())
     }
@@ -145,10 +153,10 @@ impl World {
     /// A packet comes to its receiver.
     fn deliver(&mut self, alloc: Global, number: u32, out: &mut Vec<u8>) -> Result<(), AllocError>
         requires number { 1 ≤ number }
-        requires few { load self.old < 2 ^ 62 }
+        requires few { AllBelow (2 ^ 62) self.old }
         ensures played { (bag : List Packet) (r : Records) → Keeps self.old bag r → OnOk result (Plays out.old.items out.new.items self.new r
             (step.deliver_event (world_with self.old bag r) number (model.packet_at bag number))) }
-        ensures load { OnOk result (load self.new ≤ load self.old + 1) }
+        ensures few { OnOk result (RoseByAtMost 1 self.old self.new) }
     {
         let place = number as usize - 1;
         if place >= self.bag.len() {
@@ -162,7 +170,7 @@ impl World {
             sent.to(),
             sent.frame(),
         )?;
-        tell(alloc, &mut self.counts, number, taken, out)
+        tell(&mut self.counts, number, taken, out)
     }
 
     /// A packet comes to its receiver with one bit of its frame flipped.
@@ -174,10 +182,10 @@ impl World {
         out: &mut Vec<u8>,
     ) -> Result<(), AllocError>
         requires number { 1 ≤ number }
-        requires few { load self.old < 2 ^ 62 }
+        requires few { AllBelow (2 ^ 62) self.old }
         ensures played { (bag : List Packet) (r : Records) → Keeps self.old bag r → OnOk result (Plays out.old.items out.new.items self.new r
             (step.damage_event (world_with self.old bag r) number bit (model.packet_at bag number))) }
-        ensures load { OnOk result (load self.new ≤ load self.old + 1) }
+        ensures few { OnOk result (RoseByAtMost 1 self.old self.new) }
     {
         let place = number as usize - 1;
         if place >= self.bag.len() {
@@ -194,11 +202,11 @@ impl World {
             sent.to(),
             frame.as_slice(),
         )?;
-        tell(alloc, &mut self.counts, number, taken, out)
+        tell(&mut self.counts, number, taken, out)
     }
 
     /// The frame of a packet is printed.
-    fn show(&self, alloc: Global, number: u32, out: &mut Vec<u8>) -> Result<(), AllocError>
+    fn show(&self, number: u32, out: &mut Vec<u8>) -> Result<(), AllocError>
         requires number { 1 ≤ number }
         ensures { (bag : List Packet) (r : Records) → Keeps self.now bag r → OnOk result (Plays out.old.items out.new.items self.now r
             (step.show_event (world_with self.now bag r) number (model.packet_at bag number))) }
@@ -207,36 +215,30 @@ impl World {
         if place >= self.bag.len() {
             return put_impossible(out);
         }
-        put_frame(alloc, out, number, self.bag[place].frame())
+        put_frame(out, number, self.bag[place].frame())
     }
 
     /// One step of a worker.
     fn work(&mut self, alloc: Global, worker: u8, out: &mut Vec<u8>) -> Result<(), AllocError>
         requires worker { 1 ≤ worker }
-        requires few { load self.old < 2 ^ 62 }
+        requires few { AllBelow (2 ^ 62) self.old }
         ensures played { (bag : List Packet) (r : Records) → Keeps self.old bag r → OnOk result (Plays out.old.items out.new.items self.new r
             (step.work_event (world_with self.old bag r) worker (model.numbered 1 self.old.server.workers worker))) }
-        ensures load { OnOk result (load self.new ≤ load self.old + 1) }
+        ensures few { OnOk result (RoseByAtMost 1 self.old self.new) }
     {
         match self.server.work(alloc, worker)? {
             Worked::Impossible => put_impossible(out),
-            Worked::Idle => put_idle(alloc, out, worker),
-            Worked::Step { number, did } => put_work(alloc, out, worker, number, did),
+            Worked::Idle => put_idle(out, worker),
+            Worked::Step { number, did } => put_work(out, worker, number, did),
             Worked::Runs(line) => {
-                put_work(alloc, out, worker, line.call.number.value, Did::Runs)?;
+                put_work(out, worker, line.call.number.value, Did::Runs)?;
                 self.counts.count_run();
                 self.runs.push(line)?;
                 Ok(())
             }
             Worked::Replies(packet) => {
-                put_work(
-                    alloc,
-                    out,
-                    worker,
-                    packet.header().call.number.value,
-                    Did::Replies,
-                )?;
-                self.send(alloc, packet, out)
+                put_work(out, worker, packet.header().call.number.value, Did::Replies)?;
+                self.send(packet, out)
             }
         }
     }

@@ -12,21 +12,19 @@ use Rattle.rpc_header.specs.Reading.{Accepted, Refused, applies, faults, front_f
 
 -- fewer than 32 bytes are refused first
 pub short_read : (xs : List ℕ) → length xs < 32 → read_of xs ≡ Refused fault.Short
-unfolding read_of applies first_fault
+unfolding read_of applies
 short_read xs h = let e : nat_lt (length xs) 32 ≡ true = search rules in rw e refl
 
 -- with 32 bytes and more the other faults are looked for
 long_enough : (xs : List ℕ) → 32 ≤ length xs → first_fault faults xs ≡ first_fault (front_faults ++ back_faults ++ piece_faults) xs
-unfolding first_fault applies
+unfolding applies
 long_enough xs h = let e : nat_lt (length xs) 32 ≡ false = le-ltb (length xs) 32 h in rw e refl
 
 -- among two rows of faults, one of the second is found where none of the first is
 found_in_first : (a b : List HeaderFault) (xs : List ℕ) (f : HeaderFault) → first_fault a xs ≡ Some f → first_fault (a ++ b) xs ≡ Some f
-unfolding first_fault
 found_in_first a b xs f e = find-append (applies xs) a b ∙ ap (λ (o : Option HeaderFault). option_or o (find (applies xs) b)) e
 
 none_in_first : (a b : List HeaderFault) (xs : List ℕ) → first_fault a xs ≡ None → first_fault (a ++ b) xs ≡ first_fault b xs
-unfolding first_fault
 none_in_first a b xs e = find-append (applies xs) a b ∙ ap (λ (o : Option HeaderFault). option_or o (find (applies xs) b)) e
 
 refused : (xs : List ℕ) (f : HeaderFault) → first_fault faults xs ≡ Some f → read_of xs ≡ Refused f
@@ -88,7 +86,6 @@ not_found f true rest e = absurd (cc)
 not_found f false rest e = (refl, e)
 
 pub no_fault : (xs : List ℕ) → first_fault faults xs ≡ None → NoFault xs
-unfolding first_fault
 no_fault xs none =
     let a = not_found fault.Short (applies xs fault.Short) _ none in
     let b = not_found fault.Version (applies xs fault.Version) _ a.1 in
@@ -112,7 +109,6 @@ no_fault xs none =
     }
 
 pub none_applies : (xs : List ℕ) → NoFault xs → first_fault faults xs ≡ None
-unfolding first_fault
 none_applies xs n =
     rw (n.short, n.version, n.kind, n.flags, n.reason, n.data_length, n.reserved, n.short_fragment, n.fragment_number) refl
 

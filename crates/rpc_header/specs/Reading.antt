@@ -76,7 +76,7 @@ abbrev pub faults : List HeaderFault
 faults = fault.Short ∷ front_faults ++ back_faults ++ piece_faults
 
 -- the first of these faults that applies
-unfoldable pub first_fault : List HeaderFault → List ℕ → Option HeaderFault
+abbrev pub first_fault : List HeaderFault → List ℕ → Option HeaderFault
 first_fault among xs = find (applies xs) among
 
 -- what reading gives: the first fault that applies, or the header and the data behind it

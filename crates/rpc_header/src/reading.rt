@@ -105,7 +105,7 @@ fn header_of(bytes: &[u8], kind: Kind) -> Header
 
 /// The number of fragments that the version counts, and the kind; or the first fault that applies
 /// to the first four bytes of a header.
-#[tactic(auto, unfolding(crate::specs::Reading::applies, crate::specs::Reading::first_fault))]
+#[tactic(auto, unfolding(crate::specs::Reading::applies))]
 fn fragments_and_kind(bytes: &[u8]) -> Result<(u16, Kind), HeaderFault>
     requires { HEADER_LEN ≤ length bytes.now }
     ensures faults { MatchResult result
@@ -127,7 +127,7 @@ fn fragments_and_kind(bytes: &[u8]) -> Result<(u16, Kind), HeaderFault>
 }
 
 /// The length of the data, or the first fault that applies to the last four bytes of a header.
-#[tactic(auto, unfolding(crate::specs::Reading::applies, crate::specs::Reading::first_fault))]
+#[tactic(auto, unfolding(crate::specs::Reading::applies))]
 fn data_len_of(bytes: &[u8]) -> Result<usize, HeaderFault>
     requires { HEADER_LEN ≤ length bytes.now }
     ensures faults { MatchResult result
@@ -146,7 +146,7 @@ fn data_len_of(bytes: &[u8]) -> Result<usize, HeaderFault>
 }
 
 /// Looks for a fault of the fragment: a piece that isn't full, or a number out of range.
-#[tactic(auto, unfolding(crate::specs::Reading::applies, crate::specs::Reading::first_fault))]
+#[tactic(auto, unfolding(crate::specs::Reading::applies))]
 fn check_fragment(
     bytes: &[u8],
     fragments: u16,

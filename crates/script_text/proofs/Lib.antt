@@ -1,7 +1,10 @@
-mod EndLemmas
-mod Lines
+mod Checks
+mod FirstLine
+mod FirstWord
+mod LineBytes
+mod LineLaw
 mod Numbers
-mod Packets
 mod Positions
-mod Readings
-mod Spelling
+mod Rows
+mod TextLaw
+mod Walking

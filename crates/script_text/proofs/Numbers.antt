@@ -1,76 +1,115 @@
--- What `parse` reads of a word, against the numbers of a script.
-use Rattle.std.proofs.Common.{◌≡◌, ℕ, zero, suc, ◌<◌, ◌^◌, ◌≢◌, List, length, get_or, drop, Result, Ok, Err, Some, None, MatchResult, ap, arith, inl, inr, sym, ◌∙◌, length-drop}
-use Rattle.std.proofs.lemmas.Result.{OkIff-at_ok}
+-- Words that are numbers: what `parse` reads of them, the tests of their faults, and the numbers that they spell.
+use Rattle.std.proofs.Common.{◌≡◌, ℕ, zero, suc, ◌<◌, ◌≤◌, ◌^◌, ◌&&◌, ◌==◌, Bool, true, false, List, [], ◌∷◌, length, get_or, Result, Ok, Err, Some, None, MatchOption, ap, arith, inl, inr, sym, refl, ◌∙◌}
+use Rattle.std.specs.Prelude.{nat_lt, nat_le}
+use Rattle.std.specs.List.{list_all}
+use Rattle.std.specs.Char.{is_ascii_digit}
 use Rattle.std.specs.Fmt.{decimal}
-use Rattle.std.specs.Result.{result_ok}
-use Rattle.std.specs.Int.{IsInRange}
-use Rattle.std.specs.Str.{IsUtf8}
+use Rattle.std.specs.Str.{IsUtf8, all_ascii_digits}
 use Rattle.std.specs.Str.Parse.{ParsesUnsigned, AllDigits, digits_value}
+use Rattle.std.specs.Result.{OkIff, result_ok}
+use Rattle.std.proofs.lemmas.Bool.{eqb-true, ltb-true, lt-ltb, leb-true, le-leb, and_parts, and_from, or_cases, or_right, false_from_ne_true}
 use Rattle.std.proofs.lemmas.Str.{IsUtf8-from_ascii}
-use Rattle.std.proofs.lemmas.Str.Parse.{IsNumeralModel, numerals_by_value, tells_digits, parse_plain, parse_plus, digit_at}
-use Rattle.std.proofs.lemmas.Fmt.{decimal_digit, first_decimal, decimal_is_IsNumeral, parse-decimal, decimal-digits_value, IsAscii-decimal}
+use Rattle.std.proofs.lemmas.Str.Parse.{IsNumeralModel, numerals_by_value, tells_all_ascii_digits, parse_digits}
+use Rattle.std.proofs.lemmas.Fmt.{decimal_digit, first_decimal, decimal_is_IsNumeral, decimal-digits_value, IsAscii-from_digits}
 use Rattle.replay_model.specs.Script.{IsNumber}
-use Rattle.script_text.specs.Number.{BeginsPlainly}
+use Rattle.replay_model.specs.TextFault.{Checks, first_of, begins_plainly, is_numeral, value, number_fault}
+use Rattle.replay_model.specs.declared.text_fault.TextFault.{TextFault}
+use Rattle.replay_model.specs.declared.text_fault.TextFault.TheVariants as fault
 
-own : IsNumeralModel (AllDigits 10) (digits_value 10)
-own = numerals_by_value _ tells_digits
+some_byte : (w : List ℕ) → 48 < get_or w 0 0 → 0 < length w
+some_byte [] h = absurd (omega arith)
+some_byte (b ∷ bs) h = omega arith
 
-plain_decimal : (n : ℕ) → n < 2 ^ 64 → BeginsPlainly (decimal n)
-plain_decimal zero h = inl (ap length (decimal_digit 0 (omega arith)))
-plain_decimal (suc n) h =
-    let d = decimal_is_IsNumeral (suc n) h in
-    let low = first_decimal (suc n) (omega arith) h in
-    let r : IsInRange 48 57 (get_or (decimal (suc n)) 0 0) = digit_at _ 0 d.0.1 d.0.0 in
-    inr (omega arith, omega arith)
+of_result : {E : Type 0} (r : Result ℕ E) (size v : ℕ) → 0 < size → OkIff r ((0 < size) × (v < 2 ^ 32)) v → MatchOption (result_ok r) (2 ^ 32 ≤ v) (λ n. n ≡ v)
+of_result (Ok x) size v some h = h.1
+of_result (Err e) size v some h = let k : v < 2 ^ 32 → ⊥ = λ l. h (some, l) in omega (arith, k)
 
-module _ (w : List ℕ) (low high : ℕ) (small : high < 2 ^ 32) (n : ℕ) (h : IsNumber w low high n) where
-  below : n < 2 ^ 32
-  below = let e = h.at_most in omega arith
+own : IsNumeralModel (λ ds. all_ascii_digits ds ≡ true) (digits_value 10)
+own = numerals_by_value _ tells_all_ascii_digits
 
-  below_64 : n < 2 ^ 64
-  below_64 = let e = h.at_most in omega arith
+same_digits : (w : List ℕ) → list_all is_ascii_digit w ≡ all_ascii_digits w
+same_digits [] = refl
+same_digits (b ∷ bs) = ap (λ t. is_ascii_digit b && t) (same_digits bs)
 
-  -- a number begins plainly, is text, and is what `parse` reads
-  pub number_begins_plainly : BeginsPlainly w
-  number_begins_plainly = let P : List ℕ → Type 0 = BeginsPlainly in rw h.digits (plain_decimal n below_64)
+module _ (w : List ℕ) (numeral : is_numeral w ≡ true) where
+  digits : all_ascii_digits w ≡ true
+  digits = sym (same_digits w) ∙ (and_parts _ _ numeral).0
 
-  pub number_is_text : IsUtf8 w
-  number_is_text = rw h.digits (IsUtf8-from_ascii _ (IsAscii-decimal n below_64))
+  plain : begins_plainly w ≡ true
+  plain = (and_parts _ _ numeral).1
 
-  pub number_parses : {E : Type 0} (r : Result ℕ E) → ParsesUnsigned 32 10 w r → r ≡ Ok n
-  number_parses r p = parse-decimal 32 n w r below below_64 h.digits p
+  all_digits : AllDigits 10 w
+  all_digits = own.to w digits
 
--- where the first byte is a plus sign, the word has a second
-not_plus_alone : {E : Type 0} (w : List ℕ) (r : Result ℕ E) (n : ℕ) → ParsesUnsigned 32 10 w r → r ≡ Ok n → length w ≡ 1 → get_or w 0 0 ≢ 43
-not_plus_alone w r n p e one plus =
-    let found = OkIff-at_ok r _ _ n (parse_plus own 32 w r p plus) e in
-    let some : 0 < length (drop 1 w) = found.0.1 in
-    omega (arith, length-drop 1 w)
+  pub is_text : IsUtf8 w
+  is_text = IsUtf8-from_ascii w (IsAscii-from_digits w all_digits)
 
-no_plus : {E : Type 0} (w : List ℕ) (r : Result ℕ E) (n : ℕ) → ParsesUnsigned 32 10 w r → r ≡ Ok n → BeginsPlainly w → get_or w 0 0 ≢ 43
-no_plus w r n p e (inl one) = not_plus_alone w r n p e one
-no_plus w r n p e (inr digit) = λ plus. omega arith
+  some_digits : 0 < length w
+  some_digits = elim (or_cases (length w == 1) (nat_lt 48 (get_or w 0 0)) plain) [
+    | inl e ↦ let one = eqb-true _ _ e in omega arith
+    | inr e ↦ some_byte w (ltb-true _ _ e)
+  ]
 
-zero_alone : (w : List ℕ) → BeginsPlainly w → get_or w 0 0 ≡ 48 → length w ≡ 1
-zero_alone w (inl one) z = one
-zero_alone w (inr digit) z = absurd (omega arith)
+  zero_alone : get_or w 0 0 ≡ 48 → length w ≡ 1
+  zero_alone z = elim (or_cases (length w == 1) (nat_lt 48 (get_or w 0 0)) plain) [
+    | inl e ↦ eqb-true _ _ e
+    | inr e ↦ let above = ltb-true _ _ e in absurd (omega arith)
+  ]
 
--- what `parse` reads of a word that begins plainly, the word spells
-pub parsed_is_decimal : {E : Type 0} (w : List ℕ) (r : Result ℕ E) (n : ℕ) → ParsesUnsigned 32 10 w r → BeginsPlainly w → r ≡ Ok n → w ≡ decimal n
-parsed_is_decimal w r n p plain e =
-    let found = OkIff-at_ok r _ _ n (parse_plain own 32 w r p (no_plus w r n p e plain)) e in
-    let small : digits_value 10 w < 2 ^ 64 = let below = found.0.2 in omega arith in
-    sym (ap decimal found.1 ∙ decimal-digits_value own w found.0.0 found.0.1 (zero_alone w plain) small)
+  -- `parse` refuses only those of too large a number
+  pub parsed : {E : Type 0} (r : Result ℕ E) → ParsesUnsigned 32 10 w r → MatchOption (result_ok r) (2 ^ 32 ≤ value w) (λ n. n ≡ value w)
+  parsed r h = of_result r _ _ some_digits (parse_digits own 32 w r h digits)
 
--- what `ok` gives of a result, read back
-pub ok_is : {T E : Type 0} (r : Result T E) (x : T) → Some x ≡ result_ok r → r ≡ Ok x
-ok_is (Ok y) x e = cc
-ok_is (Err y) x e = cc
+  pub is_decimal : value w < 2 ^ 64 → w ≡ decimal (value w)
+  is_decimal small = sym (decimal-digits_value own w digits some_digits zero_alone small)
 
-pub not_ok : {T E : Type 0} (r : Result T E) (x : T) → None ≡ result_ok r → r ≡ Ok x → ⊥
-not_ok (Ok y) x e f = cc
-not_ok (Err y) x e f = cc
+-- tests in their order
+pub passes : (f : TextFault) (b : Bool) (rows : Checks) → first_of ((f, b) ∷ rows) ≡ None → (b ≡ true) × (first_of rows ≡ None)
+passes f true rows e = (refl, e)
+passes f false rows e = absurd (cc)
 
-pub refused_text : {T E : Type 0} (r : Result T E) (P : T → Type 0) (U : Type 0) (V : E → Type 0) → None ≡ result_ok r → MatchResult r P (λ e. (¬ U) × V e) → U → ⊥
-refused_text (Ok x) P U V e m u = cc
-refused_text (Err y) P U V e m u = m.0 u
+module _ (low high : ℕ) (w : List ℕ) where
+  pub no_numeral : is_numeral w ≡ false → number_fault low high w ≡ Some fault.Number
+  unfolding number_fault
+  no_numeral e = rw e refl
+
+  pub within_range : is_numeral w ≡ true → low ≤ value w → value w ≤ high → number_fault low high w ≡ None
+  unfolding number_fault
+  within_range e below above = rw (e, le-leb _ _ below, le-leb _ _ above) refl
+
+  pub out_of_range : is_numeral w ≡ true → (low ≤ value w → value w ≤ high → ⊥) → number_fault low high w ≡ Some fault.Range
+  unfolding number_fault
+  out_of_range e out =
+      let off : (nat_le low (value w) && nat_le (value w) high) ≡ false = false_from_ne_true _ (λ t.
+      let both = and_parts _ _ t in out (leb-true _ _ both.0) (leb-true _ _ both.1)) in
+      rw (e, off) refl
+
+  pub without_fault : number_fault low high w ≡ None → (is_numeral w ≡ true) × (low ≤ value w) × (value w ≤ high)
+  unfolding number_fault
+  without_fault e =
+      let range = nat_le low (value w) && nat_le (value w) high in
+      let first = passes fault.Number (is_numeral w) ((fault.Range, range) ∷ []) e in
+      let second = passes fault.Range range [] first.1 in
+      let both = and_parts _ _ second.0 in
+      (first.0, leb-true _ _ both.0, leb-true _ _ both.1)
+
+  -- a word without fault spells its number, and a word that spells a number has no fault
+  pub spells_number : high < 2 ^ 64 → number_fault low high w ≡ None → IsNumber w low high (value w)
+  spells_number small e =
+      let h = without_fault e in
+      record { digits = is_decimal w h.0 (omega arith); at_least = h.1; at_most = h.2 }
+
+plain_decimal : (n : ℕ) → n < 2 ^ 64 → begins_plainly (decimal n) ≡ true
+plain_decimal zero h = rw (decimal_digit 0 (omega arith)) refl
+plain_decimal (suc n) h = or_right _ _ (lt-ltb _ _ (first_decimal (suc n) (omega arith) h))
+
+numeral_decimal : (n : ℕ) → n < 2 ^ 64 → is_numeral (decimal n) ≡ true
+numeral_decimal n h = and_from _ _ (same_digits (decimal n) ∙ own.from _ (decimal_is_IsNumeral n h).0.1) (plain_decimal n h)
+
+pub spelled_number : (w : List ℕ) (low high n : ℕ) → high < 2 ^ 64 → IsNumber w low high n → (number_fault low high w ≡ None) × (n ≡ value w)
+spelled_number w low high n small h =
+    let at_least = h.at_least in
+    let at_most = h.at_most in
+    let below : n < 2 ^ 64 = omega arith in
+    let same : value (decimal n) ≡ n = (decimal_is_IsNumeral n below).1 in
+    rw h.digits (within_range low high (decimal n) (numeral_decimal n below) (rw same at_least) (rw same at_most), sym same)

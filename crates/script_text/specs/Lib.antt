@@ -1,4 +1,4 @@
-pub mod Ends
-pub mod Number
+pub mod Lines
+pub mod Packets
 pub mod Reading
 pub mod Words

@@ -1,17 +1,59 @@
--- The words of a line, and the first words that a line may have.
-use Rattle.std.specs.Prelude.{ℕ, List, map, codes}
+-- The words of a line as they are taken from it, and the first words and call words that there are.
+use Rattle.std.specs.Prelude.{◌≡◌, ◌≢◌, ◌<◌, ℕ, List, [], ◌∷◌, length, false, Result, Ok, Err, codes, slice_index}
 use Rattle.std.specs.Borrow.{Bor}
-use Rattle.script_text.specs.declared.line.Verb.{Verb}
-use Rattle.script_text.specs.declared.line.Verb.TheVariants as verb
-
-abbrev pub texts : List (Bor (List ℕ)) → List (List ℕ)
-texts words = map (λ (w : Bor (List ℕ)). w.now) words
+use Rattle.replay_model.specs.Script.{is_blank, words_of}
+use Rattle.replay_model.specs.declared.text_fault.TextFault.{TextFault}
+use Rattle.replay_model.specs.declared.text_fault.TextFault.TheVariants as fault
+use Rattle.script_text.specs.declared.word.CallWords.{CallWords}
+use Rattle.script_text.specs.declared.verb.Verb.{Verb}
+use Rattle.script_text.specs.declared.verb.Verb.TheVariants as verb
+use Rattle.script_text.specs.declared.verb.CallVerb.{CallVerb}
+use Rattle.script_text.specs.declared.verb.CallVerb.TheVariants as asked
 
 abbrev pub text_of : Verb → List ℕ
+text_of verb.Pool = codes "pool"
+text_of verb.Second = codes "second"
 text_of verb.Call = codes "call"
+text_of verb.Bind = codes "bind"
+text_of verb.Tick = codes "tick"
 text_of verb.Deliver = codes "deliver"
 text_of verb.Damage = codes "damage"
-text_of verb.Show = codes "show"
 text_of verb.Work = codes "work"
+text_of verb.Export = codes "export"
+text_of verb.Withdraw = codes "withdraw"
+text_of verb.Restart = codes "restart"
+text_of verb.Skip = codes "skip"
+text_of verb.Show = codes "show"
+text_of verb.Holders = codes "holders"
+text_of verb.Sweep = codes "sweep"
 text_of verb.Journal = codes "journal"
 text_of verb.End = codes "end"
+
+abbrev pub asked_text_of : CallVerb → List ℕ
+asked_text_of asked.Null = codes "null"
+asked_text_of asked.Add = codes "add"
+asked_text_of asked.Bump = codes "bump"
+asked_text_of asked.MaxArg = codes "maxarg"
+asked_text_of asked.MaxResult = codes "maxresult"
+asked_text_of asked.BigArg = codes "bigarg"
+asked_text_of asked.BigResult = codes "bigresult"
+
+abbrev pub BeginsWithNoBlank : List ℕ → Type 0
+BeginsWithNoBlank line = 0 < length line → is_blank (slice_index line 0) ≡ false
+
+-- so many words, or the fault Shape
+abbrev pub HasNone : List (List ℕ) → Result (Unit {0}) TextFault → Type 0
+HasNone words (Ok _) = words ≡ []
+HasNone words (Err f) = (f ≡ fault.Shape) × (0 < length words)
+
+abbrev pub HasOne : List (List ℕ) → Result (Bor (List ℕ)) TextFault → Type 0
+HasOne words (Ok w) = words ≡ w.now ∷ []
+HasOne words (Err f) = (f ≡ fault.Shape) × (length words ≢ 1)
+
+abbrev pub HasTwo : List (List ℕ) → Result (Bor (List ℕ) × Bor (List ℕ)) TextFault → Type 0
+HasTwo words (Ok r) = words ≡ r.0.now ∷ r.1.now ∷ []
+HasTwo words (Err f) = (f ≡ fault.Shape) × (length words ≢ 2)
+
+abbrev pub HasCall : List (List ℕ) → Result CallWords TextFault → Type 0
+HasCall words (Ok r) = words ≡ r.machine.now ∷ r.process.now ∷ r.asked.now ∷ words_of r.rest.now
+HasCall words (Err f) = (f ≡ fault.Shape) × (length words < 3)

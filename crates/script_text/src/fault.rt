@@ -1,7 +1,9 @@
 //! Why no script was read.
 ghost use Rattle.std.specs.Prelude.{◌≡◌};
+ghost use Rattle.replay_model.specs.FaultNumber.{number_of};
 ghost use Rattle.script_text.specs.declared.fault.TheConstants.ScriptFault as fault;
 
+use replay_model::TextFault;
 use std::alloc::{AllocError, AllocFailed};
 use thiserror::Error;
 
@@ -11,16 +13,23 @@ use thiserror::Error;
 pub struct ScriptFault {
     /// The line, or 0 where memory ran out.
     pub line: u32,
-    /// The fault's number, or 0 where memory ran out.
+    /// The fault's number from 1 on, or 0 where memory ran out.
     pub number: u8,
 }
 
 impl ScriptFault {
-    /// The text is no script.
-    pub const BAD_TEXT: ScriptFault = ScriptFault { line: 1, number: 9 };
-
     /// Memory ran out.
     pub const MEMORY: ScriptFault = ScriptFault { line: 0, number: 0 };
+
+    /// A fault at a line.
+    pub fn at(line: u32, fault: TextFault) -> ScriptFault
+        ensures { result ≡ record { line = line; number = number_of fault } }
+    {
+        ScriptFault {
+            line,
+            number: u8::from(fault),
+        }
+    }
 }
 
 impl From<AllocError> for ScriptFault {

@@ -1,15 +1,20 @@
-//! The reading of scripts: the text of a script becomes its events, and every text outside the grammar is refused.
+//! The reading of scripts: the text of a script becomes its events, and every other text is refused at its first
+//! fault.
 #![tactic(auto)]
 
 mod fault;
+mod laws;
 mod line;
+mod lines;
 mod number;
-mod rules;
 mod script;
+mod verb;
+mod word;
 
 pub use fault::ScriptFault;
-pub use line::{FIRST_CLIENT, LAST_CLIENT, LAST_PROCESS, LAST_WORKER};
-pub use script::{LONG_BUFFERS, SMALL_BUFFERS, Script, one_reading, parse_script};
+pub use laws::{no_fault_where_spelled, one_reading};
+pub use lines::count_lines;
+pub use script::{Script, parse_script};
 
 #[cfg(test)]
 mod tests;

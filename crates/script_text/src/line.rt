@@ -1,110 +1,141 @@
 //! What one line of a script spells.
-ghost use Rattle.std.specs.Prelude.{◌≡◌, ◌≢◌, IfSome, IfNone, IfOk, MatchOption};
-ghost use Rattle.script_text.specs.Words.{texts, text_of};
-ghost use Rattle.script_text.specs.declared.line.Verb.{Verb};
-ghost use Rattle.replay_model.specs.Script.{Spells, SpellsCall, words_of, is_skipped};
-ghost use Rattle.replay_model.specs.declared.event.Event.{Event};
-ghost use Rattle.replay_model.specs.declared.event.CallWord.{CallWord};
+ghost use Rattle.std.specs.Prelude.{◌≡◌, ◌≤◌, ◌∷◌, ℕ, List, Bool, IfOk, IfSome, codes};
+ghost use Rattle.script_text.specs.Words.{text_of};
+ghost use Rattle.script_text.specs.Reading.{ReadsWords, ReadsLine, ReadsNumber};
+ghost use Rattle.replay_model.specs.Script.{InRange, is_skipped, words_of};
+ghost use Rattle.replay_model.specs.TextFault.{Above};
 
 use crate::number::{number, short_number, small_number};
-use replay_model::{CallWord, Event};
-use std::alloc::{AllocError, Global};
-use udp_frames::LARGEST_FRAME;
+use crate::verb::{CallVerb, Verb, call_verb_of, verb_of};
+use crate::word::{call_words, first_word, has_bytes_of_line, no_words, one_word, two_words};
+use replay_model::limits::{
+    FIRST_CLIENT, LARGEST_NUMBER, LAST_BIT, LAST_CLIENT, LAST_PROCESS, LAST_WORKER,
+};
+use replay_model::{CallWord, Event, TextFault};
 
-/// Machines 2 to 9 are clients. Machine 1 is the server.
-pub const FIRST_CLIENT: u8 = 2;
-
-/// The last client.
-pub const LAST_CLIENT: u8 = 9;
-
-/// The last process of a client. Processes are numbered from 1.
-pub const LAST_PROCESS: u8 = 8;
-
-/// The last worker of the server. Workers are numbered from 1.
-pub const LAST_WORKER: u8 = 4;
-
-/// The last bit of the largest frame. Bits are numbered from 0.
-pub const LAST_BIT: u16 = (8 * LARGEST_FRAME - 1) as u16;
-
-/// What the first word of a line says.
-#[derive(Clone, Copy)]
-enum Verb {
-    Call,
-    Deliver,
-    Damage,
-    Show,
-    Work,
-    Journal,
-    End,
-}
-
-fn verb_of(word: &[u8]) -> Option<Verb>
-    ensures { MatchOption result ((v : Verb) → word.now ≢ text_of v) (λ v. word.now ≡ text_of v) }
+/// The event that a line spells, or nothing where it is skipped. `ended` says whether a line above is the end.
+pub fn read_line(line: &[u8], ended: bool) -> Result<Option<Event>, TextFault>
+    ensures reads { (above : Above) → above.ended ≡ ended → ReadsLine above line.now result }
+    ensures in_range { IfOk result (λ e. IfSome e InRange) }
 {
-    match word {
-        b"call" => Some(Verb::Call),
-        b"deliver" => Some(Verb::Deliver),
-        b"damage" => Some(Verb::Damage),
-        b"show" => Some(Verb::Show),
-        b"work" => Some(Verb::Work),
-        b"journal" => Some(Verb::Journal),
-        b"end" => Some(Verb::End),
-        _ => None,
+    let Some((first, rest)) = first_word(line) else {
+        return Ok(None);
+    };
+    if is_comment(first) {
+        return Ok(None);
+    }
+    if !has_bytes_of_line(line) {
+        return Err(TextFault::Byte);
+    }
+    if ended {
+        return Err(TextFault::Late);
+    }
+    let Some(verb) = verb_of(first) else {
+        return Err(TextFault::Word);
+    };
+    match event_of(verb, rest) {
+        Ok(event) => Ok(Some(event)),
+        Err(fault) => Err(fault),
     }
 }
 
-/// What the words behind the caller ask for.
-fn call_word_of(words: &[&[u8]]) -> Option<CallWord>
-    ensures found { IfSome result (SpellsCall (texts words.now)) }
-    ensures none { IfNone result ((w : CallWord) → SpellsCall (texts words.now) w → ⊥) }
+/// A line that begins with this word is a comment.
+fn is_comment(word: &[u8]) -> bool
+    ensures { (more : List (List ℕ)) → result ≡ is_skipped (word.now ∷ more) }
 {
-    match words {
-        [b"null"] => Some(CallWord::Null),
-        [b"add", one, other] => Some(CallWord::Add(
-            number(one, 0, u32::MAX)?,
-            number(other, 0, u32::MAX)?,
-        )),
-        _ => None,
+    matches!(word, [b'#', ..])
+}
+
+/// The event of a line that begins with this word. A form that isn't built is not yet read.
+fn event_of(verb: Verb, rest: &[u8]) -> Result<Event, TextFault>
+    ensures reads { (begun : Bool) → ReadsWords begun (text_of verb ∷ words_of rest.now) result }
+    ensures in_range { IfOk result InRange }
+{
+    match verb {
+        Verb::Call => call_of(rest),
+        Verb::Deliver => Ok(Event::Deliver(packet(one_word(rest)?)?)),
+        Verb::Damage => {
+            let (word, bit) = two_words(rest)?;
+            Ok(Event::Damage {
+                packet: packet(word)?,
+                bit: short_number(bit, 0, LAST_BIT)?,
+            })
+        }
+        Verb::Work => Ok(Event::Work(small_number(one_word(rest)?, 1, LAST_WORKER)?)),
+        Verb::Show => Ok(Event::Show(packet(one_word(rest)?)?)),
+        Verb::Journal => no_words(rest).map(|()| Event::Journal),
+        Verb::End => no_words(rest).map(|()| Event::End),
+        Verb::Pool
+        | Verb::Second
+        | Verb::Bind
+        | Verb::Tick
+        | Verb::Export
+        | Verb::Withdraw
+        | Verb::Restart
+        | Verb::Skip
+        | Verb::Holders
+        | Verb::Sweep => Err(TextFault::NotYet),
     }
 }
 
-/// The event that the words of a line spell.
-pub fn event_of(words: &[&[u8]]) -> Option<Event>
-    ensures found { IfSome result (Spells (texts words.now)) }
-    ensures none { IfNone result ((e : Event) → Spells (texts words.now) e → ⊥) }
+/// The call of a line that begins with `call`.
+fn call_of(rest: &[u8]) -> Result<Event, TextFault>
+    ensures reads { (begun : Bool) → ReadsWords begun (codes "call" ∷ words_of rest.now) result }
+    ensures in_range { IfOk result InRange }
 {
-    let (first, others) = words.split_first()?;
-    match (verb_of(first)?, others) {
-        (Verb::Call, [machine, process, asked @ ..]) => Some(Event::Call {
-            machine: small_number(machine, FIRST_CLIENT, LAST_CLIENT)?,
-            process: small_number(process, 1, LAST_PROCESS)?,
-            word: call_word_of(asked)?,
-        }),
-        (Verb::Deliver, [packet]) => Some(Event::Deliver(number(packet, 1, u32::MAX)?)),
-        (Verb::Damage, [packet, bit]) => Some(Event::Damage {
-            packet: number(packet, 1, u32::MAX)?,
-            bit: short_number(bit, 0, LAST_BIT)?,
-        }),
-        (Verb::Show, [packet]) => Some(Event::Show(number(packet, 1, u32::MAX)?)),
-        (Verb::Work, [worker]) => Some(Event::Work(small_number(worker, 1, LAST_WORKER)?)),
-        (Verb::Journal, []) => Some(Event::Journal),
-        (Verb::End, []) => Some(Event::End),
-        _ => None,
+    let line = call_words(rest)?;
+    let Some(verb) = call_verb_of(line.asked) else {
+        return Err(TextFault::Word);
+    };
+    match verb {
+        CallVerb::Null => {
+            no_words(line.rest)?;
+            Ok(Event::Call {
+                machine: client(line.machine)?,
+                process: process(line.process)?,
+                word: CallWord::Null,
+            })
+        }
+        CallVerb::Add => {
+            let (one, other) = two_words(line.rest)?;
+            Ok(Event::Call {
+                machine: client(line.machine)?,
+                process: process(line.process)?,
+                word: CallWord::Add(any_number(one)?, any_number(other)?),
+            })
+        }
+        CallVerb::Bump
+        | CallVerb::MaxArg
+        | CallVerb::MaxResult
+        | CallVerb::BigArg
+        | CallVerb::BigResult => Err(TextFault::NotYet),
     }
 }
 
-/// The words of a line, which stand between blanks.
-pub fn words_of(alloc: Global, line: &[u8]) -> Result<Vec<&[u8]>, AllocError>
-    ensures { IfOk result (λ v. texts v.items ≡ words_of line.now) }
+fn client(word: &[u8]) -> Result<u8, TextFault>
+    ensures reads { ReadsNumber FIRST_CLIENT LAST_CLIENT word.now result }
+    ensures in_range { IfOk result (λ n. (FIRST_CLIENT ≤ n) × (n ≤ LAST_CLIENT)) }
 {
-    line.split(|byte| matches!(*byte, b' ' | b'\t'))
-        .filter(|word| !word.is_empty())
-        .collect(alloc)
+    small_number(word, FIRST_CLIENT, LAST_CLIENT)
 }
 
-/// Whether a line is skipped: it has no words, or is a comment.
-pub fn is_skipped(words: &[&[u8]]) -> bool
-    ensures { result ≡ is_skipped (texts words.now) }
+fn process(word: &[u8]) -> Result<u8, TextFault>
+    ensures reads { ReadsNumber 1 LAST_PROCESS word.now result }
+    ensures in_range { IfOk result (λ n. (1 ≤ n) × (n ≤ LAST_PROCESS)) }
 {
-    matches!(words, [] | [[b'#', ..], ..])
+    small_number(word, 1, LAST_PROCESS)
+}
+
+fn packet(word: &[u8]) -> Result<u32, TextFault>
+    ensures reads { ReadsNumber 1 LARGEST_NUMBER word.now result }
+    ensures in_range { IfOk result (λ n. (1 ≤ n) × (n ≤ LARGEST_NUMBER)) }
+{
+    number(word, 1, LARGEST_NUMBER)
+}
+
+fn any_number(word: &[u8]) -> Result<u32, TextFault>
+    ensures reads { ReadsNumber 0 LARGEST_NUMBER word.now result }
+    ensures in_range { IfOk result (λ n. n ≤ LARGEST_NUMBER) }
+{
+    number(word, 0, LARGEST_NUMBER)
 }

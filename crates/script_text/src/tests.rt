@@ -1,5 +1,5 @@
-//! What is read of worked scripts, and texts just outside the grammar.
-use crate::{ScriptFault, parse_script};
+//! What is read of worked scripts, and the first faults of texts just outside the grammar.
+use crate::{ScriptFault, count_lines, parse_script};
 use replay_model::{CallWord, Event};
 use std::test::Fail;
 
@@ -100,83 +100,263 @@ fn lines_that_say_nothing_are_skipped(rt: HostRuntime) -> Result<(), Fail> {
 }
 
 #[test]
-fn texts_just_outside_the_grammar_are_refused(rt: HostRuntime) {
-    let outside: [&[u8]; 20] = [
-        b"",
-        b"\n",
-        b"# end\n",
+fn words_that_begin_no_form(rt: HostRuntime) {
+    let texts: [&[u8]; 6] = [
         b"jump\nend\n",
         b"Journal\nend\n",
-        b"journal",
-        b"end\njournal\n",
-        b"end\nend\n",
-        b"deliver 1\ndeliver 1\nend\n",
-        b"deliver 01\nend\n",
-        b"deliver +1\nend\n",
-        b"deliver 0\nend\n",
-        b"deliver 4294967296\nend\n",
-        b"deliver 1 2\nend\n",
-        b"deliver\nend\n",
-        b"call 1 1 null\nend\n",
-        b"call 10 1 null\nend\n",
-        b"call 2 9 null\nend\n",
-        b"call 2 1\nend\n",
-        b"work 5\nend\n",
+        b"call 2 1 jump\nend\n",
+        b"call 2 1 Null 1\nend\n",
+        b"end# x\n",
+        b"call 2 1 #null\nend\n",
     ];
-    for text in outside {
-        let answer = parse_script(rt.alloc(), text);
-        assert!(rt; matches!(answer, Err(ScriptFault { line: 1, number: 9 })));
+    for text in texts {
+        let fault = parse_script(rt.alloc(), text).err();
+        assert_eq!(rt; fault, Some(ScriptFault { line: 1, number: 1 }));
+    }
+    let texts: [&[u8]; 1] = [b"call 2 1 null\ndeliv"];
+    for text in texts {
+        let fault = parse_script(rt.alloc(), text).err();
+        assert_eq!(rt; fault, Some(ScriptFault { line: 2, number: 1 }));
     }
 }
 
 #[test]
-fn numbers_and_words_out_of_place_are_refused(rt: HostRuntime) {
-    let outside: [&[u8]; 15] = [
+fn lines_of_another_number_of_words(rt: HostRuntime) {
+    let texts: [&[u8]; 15] = [
+        b"deliver\nend\n",
+        b"deliver 1 2\nend\n",
+        b"damage 1\nend\n",
+        b"damage 1 2 3\nend\n",
+        b"show\nend\n",
+        b"work\nend\n",
+        b"journal 1\nend\n",
+        b"end # x\n",
+        b"call\nend\n",
+        b"call 2\nend\n",
+        b"call 2 1\nend\n",
+        b"call 2 1 null 1\nend\n",
         b"call 2 1 add\nend\n",
         b"call 2 1 add 1\nend\n",
         b"call 2 1 add 1 2 3\nend\n",
-        b"call 2 1 add 01 2\nend\n",
-        b"call 2 1 add 1 4294967296\nend\n",
-        b"call 2 1 add 4294967296 1\nend\n",
-        b"call 2 1 null 1\nend\n",
-        b"damage 1 12112\nend\n",
-        b"damage 0 0\nend\n",
-        b"damage 1\nend\n",
-        b"damage 1 0\ndamage 1 0\nend\n",
-        b"deliver 1\ndamage 1 0\nend\n",
-        b"show 0\nend\n",
-        b"show\nend\n",
-        b"show 4294967296\nend\n",
     ];
-    for text in outside {
-        let answer = parse_script(rt.alloc(), text);
-        assert!(rt; matches!(answer, Err(ScriptFault { line: 1, number: 9 })));
+    for text in texts {
+        let fault = parse_script(rt.alloc(), text).err();
+        assert_eq!(rt; fault, Some(ScriptFault { line: 1, number: 2 }));
     }
 }
 
 #[test]
-fn returns_and_comments_out_of_place_are_refused(rt: HostRuntime) {
-    let outside: [&[u8]; 14] = [
-        // Of a carriage return only one is ignored, and only directly before a newline.
+fn words_that_are_no_numbers(rt: HostRuntime) {
+    let texts: [&[u8]; 9] = [
+        b"deliver x\nend\n",
+        b"deliver 01\nend\n",
+        b"deliver 00\nend\n",
+        b"deliver +1\nend\n",
+        b"deliver -1\nend\n",
+        b"deliver 1x\nend\n",
+        b"deliver 0x1\nend\n",
+        b"deliver 000000000000000000000000000000000001\nend\n",
+        b"call 2 1 add 1 02\nend\n",
+    ];
+    for text in texts {
+        let fault = parse_script(rt.alloc(), text).err();
+        assert_eq!(rt; fault, Some(ScriptFault { line: 1, number: 3 }));
+    }
+}
+
+#[test]
+fn numbers_out_of_range(rt: HostRuntime) {
+    let texts: [&[u8]; 15] = [
+        b"deliver 0\nend\n",
+        b"deliver 4294967296\nend\n",
+        b"deliver 18446744073709551617\nend\n",
+        b"deliver 99999999999999999999999999999999999999999999\nend\n",
+        b"call 1 1 null\nend\n",
+        b"call 10 1 null\nend\n",
+        b"call 2 0 null\nend\n",
+        b"call 2 9 null\nend\n",
+        b"work 0\nend\n",
+        b"work 5\nend\n",
+        b"damage 0 0\nend\n",
+        b"damage 1 12112\nend\n",
+        b"show 0\nend\n",
+        b"call 2 1 add 4294967296 1\nend\n",
+        b"call 2 1 add 1 4294967296\nend\n",
+    ];
+    for text in texts {
+        let fault = parse_script(rt.alloc(), text).err();
+        assert_eq!(rt; fault, Some(ScriptFault { line: 1, number: 4 }));
+    }
+}
+
+#[test]
+fn lines_behind_the_end(rt: HostRuntime) {
+    let texts: [&[u8]; 6] = [
+        b"end\njournal\n",
+        b"end\nend\n",
+        b"end\njump\n",
+        b"end\nend end\n",
+        b"end\npool 2 0\n",
+        b"end\ndeliver x\n",
+    ];
+    for text in texts {
+        let fault = parse_script(rt.alloc(), text).err();
+        assert_eq!(rt; fault, Some(ScriptFault { line: 2, number: 6 }));
+    }
+    let texts: [&[u8]; 1] = [b"end\n\n# x\njournal"];
+    for text in texts {
+        let fault = parse_script(rt.alloc(), text).err();
+        assert_eq!(rt; fault, Some(ScriptFault { line: 4, number: 6 }));
+    }
+}
+
+#[test]
+fn texts_without_an_end(rt: HostRuntime) {
+    let texts: [&[u8]; 3] = [b"", b"journal", b"# end"];
+    for text in texts {
+        let fault = parse_script(rt.alloc(), text).err();
+        assert_eq!(rt; fault, Some(ScriptFault { line: 1, number: 7 }));
+    }
+    let texts: [&[u8]; 3] = [b"\n", b"journal\n", b"\njournal"];
+    for text in texts {
+        let fault = parse_script(rt.alloc(), text).err();
+        assert_eq!(rt; fault, Some(ScriptFault { line: 2, number: 7 }));
+    }
+    let texts: [&[u8]; 1] = [b"journal\n\n# x\n"];
+    for text in texts {
+        let fault = parse_script(rt.alloc(), text).err();
+        assert_eq!(rt; fault, Some(ScriptFault { line: 4, number: 7 }));
+    }
+}
+
+#[test]
+fn bytes_that_no_line_has(rt: HostRuntime) {
+    let texts: [&[u8]; 12] = [
+        b"end\x00\n",
+        b"end\x7f\n",
+        b"end\xff\n",
+        b"end\x0b\n",
+        b"end\x0c\n",
+        b"\x00# x\nend\n",
         b"end\r",
         b"end\r\r\n",
         b"end\r \n",
-        b"end\n\r",
         b"\rend\n",
         b"work\r1\nend\n",
-        // A comment begins with its line.
-        b"end # x\n",
-        b"call 2 1 #null\nend\n",
-        b"end\n/# x\n",
-        b"end\r# x\n",
-        // A form feed or a vertical tab is no blank.
-        b"end\x0c\n",
-        b"work\x0b1\nend\n",
-        b"\x0c\nend\n",
-        b"\x0b# x\nend\n",
+        b"jump\x01\nend\n",
     ];
-    for text in outside {
-        let answer = parse_script(rt.alloc(), text);
-        assert!(rt; matches!(answer, Err(ScriptFault { line: 1, number: 9 })));
+    for text in texts {
+        let fault = parse_script(rt.alloc(), text).err();
+        assert_eq!(rt; fault, Some(ScriptFault { line: 1, number: 8 }));
     }
+    let texts: [&[u8]; 2] = [b"end\n\r", b"end\njournal\x80\n"];
+    for text in texts {
+        let fault = parse_script(rt.alloc(), text).err();
+        assert_eq!(rt; fault, Some(ScriptFault { line: 2, number: 8 }));
+    }
+}
+
+#[test]
+fn forms_that_are_not_built(rt: HostRuntime) {
+    let texts: [&[u8]; 18] = [
+        b"pool 2 0\nend\n",
+        b"second 2\nend\n",
+        b"bind 2 1 main\nend\n",
+        b"tick 2 1\nend\n",
+        b"tick 2 1 1001\nend\n",
+        b"export main\nend\n",
+        b"withdraw main\nend\n",
+        b"restart 1\nend\n",
+        b"skip 2 1 1\nend\n",
+        b"holders 1\nend\n",
+        b"sweep\nend\n",
+        b"call 2 1 bump 1\nend\n",
+        b"call 2 1 maxarg 92157\nend\n",
+        b"call 2 1 maxresult 1\nend\n",
+        b"call 2 1 bigarg 1\nend\n",
+        b"call 2 1 bigresult 1\nend\n",
+        b"tick\nend\n",
+        b"call x y bump\nend\n",
+    ];
+    for text in texts {
+        let fault = parse_script(rt.alloc(), text).err();
+        assert_eq!(rt; fault, Some(ScriptFault { line: 1, number: 9 }));
+    }
+    let texts: [&[u8]; 1] = [b"journal\npool 2 0\nend\n"];
+    for text in texts {
+        let fault = parse_script(rt.alloc(), text).err();
+        assert_eq!(rt; fault, Some(ScriptFault { line: 2, number: 9 }));
+    }
+}
+
+#[test]
+fn packets_that_a_second_line_brings(rt: HostRuntime) {
+    let texts: [&[u8]; 3] = [
+        b"deliver 1\ndeliver 1\nend\n",
+        b"deliver 1\ndamage 1 0\nend\n",
+        b"damage 7 0\ndamage 7 1\njump\n",
+    ];
+    for text in texts {
+        let fault = parse_script(rt.alloc(), text).err();
+        assert_eq!(rt; fault, Some(ScriptFault { line: 2, number: 9 }));
+    }
+    let texts: [&[u8]; 1] = [b"damage 1 0\nshow 1\ndeliver 1\nend\n"];
+    for text in texts {
+        let fault = parse_script(rt.alloc(), text).err();
+        assert_eq!(rt; fault, Some(ScriptFault { line: 3, number: 9 }));
+    }
+}
+
+#[test]
+fn the_first_of_two_faults_counts(rt: HostRuntime) {
+    let texts: [&[u8]; 2] = [b"call x y jump\nend\n", b"jump 1 2 3 4 5 6 7 8\nend\n"];
+    for text in texts {
+        let fault = parse_script(rt.alloc(), text).err();
+        assert_eq!(rt; fault, Some(ScriptFault { line: 1, number: 1 }));
+    }
+    let texts: [&[u8]; 2] = [b"deliver x y\nend\n", b"call x y add 1\nend\n"];
+    for text in texts {
+        let fault = parse_script(rt.alloc(), text).err();
+        assert_eq!(rt; fault, Some(ScriptFault { line: 1, number: 2 }));
+    }
+    let texts: [&[u8]; 3] = [
+        b"damage x 12112\nend\n",
+        b"call x 9 null\nend\n",
+        b"call 2 1 add x 4294967296\nend\n",
+    ];
+    for text in texts {
+        let fault = parse_script(rt.alloc(), text).err();
+        assert_eq!(rt; fault, Some(ScriptFault { line: 1, number: 3 }));
+    }
+    let texts: [&[u8]; 3] = [
+        b"damage 0 x\nend\n",
+        b"call 1 x null\nend\n",
+        b"call 2 9 add x x\nend\n",
+    ];
+    for text in texts {
+        let fault = parse_script(rt.alloc(), text).err();
+        assert_eq!(rt; fault, Some(ScriptFault { line: 1, number: 4 }));
+    }
+    let texts: [&[u8]; 2] = [
+        b"deliver 1\ndamage 1 12112\nend\n",
+        b"journal\nwork 5\njump\nend\n",
+    ];
+    for text in texts {
+        let fault = parse_script(rt.alloc(), text).err();
+        assert_eq!(rt; fault, Some(ScriptFault { line: 2, number: 4 }));
+    }
+}
+
+#[test]
+fn lines_are_counted(rt: HostRuntime) -> Result<(), Fail> {
+    assert_eq!(rt; count_lines(b""), 0);
+    assert_eq!(rt; count_lines(b"end"), 1);
+    assert_eq!(rt; count_lines(b"end\n"), 1);
+    assert_eq!(rt; count_lines(b"\n\r"), 2);
+    assert_eq!(rt; count_lines(b"\n\nend\n"), 3);
+    let mut text = vec![in rt.alloc(); b'\n'; 20_000]?;
+    assert_eq!(rt; count_lines(&text), 20_000);
+    text.push(b'#')?;
+    assert_eq!(rt; count_lines(&text), 20_001);
+    Ok(())
 }

@@ -119,10 +119,8 @@ fn check_udp(frame: &[u8]) -> Result<(), FrameFault>
     let total_length = usize::from(number_at(frame, place::TOTAL_LENGTH));
     let complete = udp_length == total_length.saturating_sub(INTERNET_LEN);
     accept(complete, FrameFault::UdpLength)?;
-    accept(
-        number_at(frame, place::UDP_CHECKSUM) != 0,
-        FrameFault::NoChecksum,
-    )?;
+    let has_checksum = number_at(frame, place::UDP_CHECKSUM) != 0;
+    accept(has_checksum, FrameFault::NoChecksum)?;
     accept(udp_sum(frame) == RIGHT_SUM, FrameFault::UdpChecksum)?;
     Ok(())
 }

@@ -1,31 +1,32 @@
-use Rattle.std.proofs.Common.{◌≡◌, ◌≤◌, ℕ, List, length, sym, ap, subst, inl, inr, rules, arith, Err}
-use Rattle.replay_model.specs.Script.{IsScript}
-use Rattle.ffrpc.proofs.Reading.{told, told_is, turned}
+use Rattle.std.proofs.Common.{◌≡◌, ◌≤◌, ◌⊎◌, ap, subst, inr, arith, Err}
+use Rattle.std.proofs.lemmas.Result.{err_from_is_err_and}
+use Rattle.replay_model.specs.TextFault.{line_count}
+use Rattle.script_text.specs.Reading.{IsRefusal}
+use Rattle.ffrpc.specs.Outside.{input}
+use Rattle.ffrpc.specs.Replay.{IsWithin}
+use Rattle.ffrpc.proofs.Reading.{memory, unread, no_script, turned}
 use Rattle.ffrpc.proofs.replay.read_script.Goals as goal
 
-pub returns-in-Err-Failed-clause-read : goal.returns-in-Err-Failed-clause-read
-returns-in-Err-Failed-clause-read g c =
-    (told (g.S.Source.left c.args.source.now), told_is (g.S.Source.left c.args.source.now), search rules)
+pub returns-in_err-bytes-clause-read : goal.returns-in_err-bytes-clause-read
+returns-in_err-bytes-clause-read g c =
+    let from = input (g.S.Source.left c.args.source.now) (g.S.Source.faults c.args.source.now) in
+    let to = input (g.S.Source.left c.read_all.new.source) (g.S.Source.faults c.read_all.new.source) in
+    let h = c.in_err-bytes.ensures in
+    let p = err_from_is_err_and c.from_residual.result c.from_residual.ensures.1 in
+    let why = unread c.in_err-bytes.field-0.0 from to h.read.0 h.read.1 (λ e. h.read.3.0 (ap Err e)) (λ e. h.failed (ap Err e)) in
+    (why.0, why.1, rw (p.1, p.2) why.2)
 
-pub returns-in-Err-Memory-clause-read : goal.returns-in-Err-Memory-clause-read
-returns-in-Err-Memory-clause-read g c =
-    (told (g.S.Source.left c.args.source.now), told_is (g.S.Source.left c.args.source.now), tt)
-
-pub returns-clause-read : goal.returns-clause-read
-returns-clause-read g c =
-    let text : List ℕ = c.in-Ok.text.items in
-    let slice : c.as_slice.result.now ≡ text = c.as_slice.ensures.value in
-    let short : length text ≤ 1048576 = omega (arith, c.in-Ok.ensures.fits) in (
-      text,
-      turned (g.S.Source.left c.args.source.now) text c.in-Ok.ensures.all,
-      elim c.in-Err.ensures.faults [
-        | inl e ↦ (
-          ap (λ f. f.line) e,
-          ap (λ f. f.number) e,
-          short,
-          λ s is. c.in-Err.ensures.refused (ap Err e) s (subst (λ t. IsScript t s) (sym slice) is),
-          c.in-Ok.ensures.end,
-        )
-        | inr e ↦ absurd (c.if-fault-eq0.false (ap (λ f. f.number) e))
-      ],
-    )
+pub returns-in_err-parse_script-clause-read : goal.returns-in_err-parse_script-clause-read
+returns-in_err-parse_script-clause-read g c =
+    let from = input (g.S.Source.left c.args.source.now) (g.S.Source.faults c.args.source.now) in
+    let to = input (g.S.Source.left c.read_all.new.source) (g.S.Source.faults c.read_all.new.source) in
+    let text = c.in_ok-bytes.bytes.items in
+    let e = c.in_err-parse_script.field-0.0 in
+    let p = err_from_is_err_and c.from_residual-in_err-parse_script.result c.from_residual-in_err-parse_script.ensures.1 in
+    let lines : line_count c.as_slice-text.result.now ≤ 20000 = omega (arith, c.count_lines.ensures) in
+    let within : IsWithin text = record {
+      bytes = omega (arith, c.in_ok-bytes.ensures.fits);
+      lines = subst (λ t. line_count t ≤ 20000) c.as_slice-text.ensures.value lines;
+    } in
+    let refused = subst (λ t. (e ≡ memory) ⊎ IsRefusal t e) c.as_slice-text.ensures.value c.in_err-parse_script.ensures.refused in
+    (text, turned from.left text c.in_ok-bytes.ensures.all, rw (p.1, p.2) (no_script e text from to refused within c.in_ok-bytes.ensures.end))

@@ -1,10 +1,15 @@
+use Rattle.std.proofs.Common.{ℕ, List, ◌++◌, ◌∙◌, ap}
+use Rattle.std.specs.Prelude.{codes}
+use Rattle.std.specs.Fmt.{decimal}
 use Rattle.std.proofs.lemmas.Result.{on_ok_weaker}
-use Rattle.replay_lines.proofs.Put.{end_added}
+use Rattle.replay_model.specs.Lines.{newline}
+use Rattle.replay_lines.proofs.Texts.{regroup_eleven}
 use Rattle.replay_lines.proofs.counts.put_end.Goals as goal
 
 pub returns : goal.returns
 returns c =
+    let n = c.counts.inside in
     rw (← c.counts.view_is)
-    (on_ok_weaker c.put_lost.result (end_added c.args.out.now.items c.put_ran.new.out.items c.put_lost.new.out.items
-    (record { runs = c.counts.inside.runs; returned = c.counts.inside.returned; signalled = c.counts.inside.signalled; failed = c.counts.inside.failed; refused = c.counts.inside.refused })
-    c.in_ok-put_ran.ensures) c.put_lost.ensures)
+    (on_ok_weaker c.writeln.result (λ e. e ∙ ap (λ (t : List ℕ). c.args.out.now.items ++ t)
+    (regroup_eleven (codes "end runs ") (decimal n.runs) (codes " returned ") (decimal n.returned) (codes " signalled ") (decimal n.signalled)
+    (codes " failed ") (decimal n.failed) (codes " refused ") (decimal n.refused) newline)) c.writeln.ensures)

@@ -1,10 +1,14 @@
+use Rattle.std.proofs.Common.{ℕ, List, ◌++◌, ◌∙◌, ap}
+use Rattle.std.specs.Prelude.{codes}
+use Rattle.std.specs.Fmt.{decimal}
 use Rattle.std.proofs.lemmas.Result.{on_ok_weaker}
 use Rattle.call_rules.specs.Packet.{fields_of}
-use Rattle.replay_lines.proofs.Put.{packet_added}
+use Rattle.replay_model.specs.Lines.{blank, newline, header_text}
+use Rattle.replay_lines.proofs.Texts.{regroup_eleven}
 use Rattle.replay_lines.proofs.packets.put_packet.Goals as goal
 
 pub returns : goal.returns
 returns c =
-    on_ok_weaker c.put_flags.result (packet_added c.args.out.now.items c.put_route.new.out.items c.put_piece.new.out.items c.put_flags.new.out.items
-    c.args.number c.from.result.machine c.to.result.machine c.payload_len.result (fields_of c.header-header.result.now) c.args.packet.now
-    c.from.ensures c.to.ensures c.header-header.ensures c.payload_len.ensures c.in_ok-put_route.ensures c.in_ok-put_piece.ensures) c.put_flags.ensures
+    on_ok_weaker c.writeln.result (λ e. e ∙ ap (λ (t : List ℕ). c.args.out.now.items ++ t)
+    (regroup_eleven (codes "packet ") (decimal c.args.number) blank (decimal c.args.from) (codes ">") (decimal c.args.to) blank
+    (header_text (fields_of c.args.header.now)) blank (decimal c.args.len) newline)) c.writeln.ensures

@@ -1,6 +1,6 @@
 use Rattle.std.proofs.Common.{◌≡◌, ◌++◌, take}
-use Rattle.replay_lines.specs.Printed.{run_digest_lines}
+use Rattle.replay_model.specs.Lines.{run_lines}
 use Rattle.replay_lines.proofs.runs.put_runs.Given as goal
 
 abbrev pub invariant-loop-i : goal.invariant-loop-i
-invariant-loop-i l = l.out.items ≡ l.fn.out.items ++ run_digest_lines 1 (take l.i l.runs)
+invariant-loop-i l = l.out.items ≡ l.fn.out.items ++ run_lines 1 (take l.i l.runs)

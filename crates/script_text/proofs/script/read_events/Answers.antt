@@ -1,49 +1,95 @@
--- A line that is skipped changes nothing, one that spells an event is one more that is read, and one that spells
--- none is never read.
-use Rattle.std.proofs.Common.{◌≡◌, Option, Some, None, Ok, Err, IfSome, IfNone, ap, arith, subst, sym, ◌∙◌}
-use Rattle.std.specs.Option.{ok_or}
-use Rattle.replay_model.specs.Script.{is_skipped, words_of}
-use Rattle.script_text.specs.Words.{texts}
-use Rattle.script_text.proofs.Readings.{more_read, more_skipped, never_read}
+-- Each line is skipped, has the first fault, or gives one more event.
+use Rattle.std.proofs.Common.{◌≡◌, ℕ, ◌<◌, ◌≤◌, ◌+◌, length, vec_len, Bor, List, ◌∷◌, Option, Ok, IfSome, inr, ap, arith, subst, sym, ◌∙◌}
+use Rattle.std.specs.List.{list_any, All}
+use Rattle.std.specs.Prelude.{nat_eq}
+use Rattle.std.proofs.lemmas.Bool.{not-true, not-false}
+use Rattle.std.proofs.lemmas.List.Elements.{All-nil, All-push}
+use Rattle.replay_model.specs.Script.{InRange}
+use Rattle.replay_model.specs.declared.event.Event.{Event}
+use Rattle.replay_model.specs.declared.text_fault.TextFault.TheVariants as fault
+use Rattle.script_text.specs.Lines.{lines_of_rest}
+use Rattle.script_text.specs.Reading.{ReadsLine}
+use Rattle.script_text.proofs.Walking.{counted_some, faulty, repeated, more_skipped, more_read, fault_here, refusal, nothing_read, fewer, parts_left, bytes_left}
 use Rattle.script_text.proofs.script.read_events.Goals as goal
-use Rattle.script_text.proofs.script.read_events.Goals.{After-is_skipped, then-not-is_skipped+in_ok-event+in_ok-push, else-not-is_skipped}
+use Rattle.script_text.proofs.script.read_events.Goals.{After-read_line}
 
-none_was : {X E P : Type 0} (o : Option X) (d e : E) → Err e ≡ ok_or o d → IfNone o P → P
-none_was None d e same h = h
-none_was (Some x) d e same h = absurd (cc)
+pub loop-rest-init : goal.loop-rest-init
+loop-rest-init c = record {
+  so_far = nothing_read c.args.text.now c.new-events.result.items c.new-packets.result c.new-events.ensures.items (λ k. ap (list_any (nat_eq k)) c.new-packets.ensures.empty);
+  few_lines = omega arith;
+  few = omega arith;
+  in_range = let P : List Event → Type 0 = All InRange in subst P (sym c.new-events.ensures.items) (All-nil InRange);
+}
 
-some_was : {X E : Type 0} (P : X → Type 0) (o : Option X) (d : E) (x : X) → Ok x ≡ ok_or o d → IfSome o P → P x
-some_was P None d x same h = absurd (cc)
-some_was P (Some y) d x same h = let e : y ≡ x = cc in subst P e h
+-- the lines of the rest
+here : (c : After-read_line) → lines_of_rest c.loop-rest.rest ≡ c.first_line.result.0.now ∷ lines_of_rest c.first_line.result.1
+here c = ap lines_of_rest c.in-Some.is ∙ c.first_line.ensures.lines
 
--- whether the line is skipped
-told : (c : After-is_skipped) → c.is_skipped.result ≡ is_skipped (words_of c.in-Some.line.now)
-told c =
-    let words : texts c.deref.result.now ≡ words_of c.in-Some.line.now = rw c.deref.ensures.value c.in_ok-words.ensures in
-    c.is_skipped.ensures ∙ ap is_skipped words
+-- the counts, one line on
+counted : (c : After-read_line) → (c.loop-rest.line + 1 + parts_left c.first_line.result.1 ≤ length c.args.text.now + 1)
+    × (vec_len c.loop-rest.events + bytes_left c.first_line.result.1 ≤ length c.args.text.now)
+    × (0 < length c.first_line.result.0.now → vec_len c.loop-rest.events + 1 + bytes_left c.first_line.result.1 ≤ length c.args.text.now)
+counted c =
+    let L : Option (Bor (List ℕ)) → Type 0 = λ rest. c.loop-rest.line + parts_left rest ≤ length c.args.text.now + 1 in
+    let E : Option (Bor (List ℕ)) → Type 0 = λ rest. vec_len c.loop-rest.events + bytes_left rest ≤ length c.args.text.now in
+    fewer c.in-Some.text.now c.first_line.result.0.now c.first_line.result.1 c.loop-rest.line (vec_len c.loop-rest.events) (length c.args.text.now)
+    c.first_line.ensures.shorter (subst L c.in-Some.is c.loop-rest.invariant.few_lines) (subst E c.in-Some.is c.loop-rest.invariant.few)
 
-pub returns-in_err-event-clause-refused : goal.returns-in_err-event-clause-refused
-returns-in_err-event-clause-refused c = λ _.
-    let kept = sym (told (goal.at.returns-in_err-event-clause-refused c).After-is_skipped) ∙ c.if-not-is_skipped.true in
-    let words : texts c.deref-then-not-is_skipped.result.now ≡ words_of c.in-Some.line.now = rw c.deref-then-not-is_skipped.ensures.value c.in_ok-words.ensures in
-    let never = none_was c.event_of.result _ _ c.in_err-event.ensures.value c.event_of.ensures.none in
-    never_read c.in-Some.behind.now c.loop-line.invariant.so_far c.in-Some.ensures.lines kept (rw words at never)
+pub returns-in-Err-clause-refused : goal.returns-in-Err-clause-refused
+returns-in-Err-clause-refused c =
+    let r = c.loop-rest.invariant.so_far in
+    let line = c.first_line.result.0.now in
+    let more = lines_of_rest c.first_line.result.1 in
+    let first = here (goal.at.returns-in-Err-clause-refused c).After-read_line in
+    let told = c.in-Err.ensures.reads r.above r.ended_is in
+    inr (refusal c.args.text.now (c.loop-rest.line + 1) c.in-Err.fault c.at-in-Err.result c.at-in-Err.ensures
+    (fault_here r line more first c.in-Err.fault (faulty r.above line told.0 c.in-Err.fault told.1)))
 
-pub loop-line-preserved : goal.loop-line-preserved
-loop-line-preserved c =
-    let same = sym (told (goal.at.loop-line-preserved c).After-is_skipped) in
-    let shorter = c.in-Some.ensures.shorter in
-    elim c.if-not-is_skipped.branch [
-      | then-not-is_skipped+in_ok-event+in_ok-push w ↦
-          let words : texts w.deref-then-not-is_skipped.result.now ≡ words_of c.in-Some.line.now = rw w.deref-then-not-is_skipped.ensures.value c.in_ok-words.ensures in
-          let found = some_was _ w.event_of.result _ _ w.in_ok-event.ensures.value w.event_of.ensures.found in
-          rw w.events-is (record {
-            so_far = rw w.in_ok-push.ensures.items (more_read c.in-Some.behind.now _ c.loop-line.invariant.so_far c.in-Some.ensures.lines (same ∙ w.if-not-is_skipped.true) (rw words at found));
-            few = let pushed = w.in_ok-push.ensures.len in omega arith;
-          })
-      | else-not-is_skipped w ↦
-          rw w.events-is (record {
-            so_far = more_skipped c.in-Some.behind.now c.loop-line.invariant.so_far c.in-Some.ensures.lines (same ∙ w.if-not-is_skipped.false);
-            few = omega arith;
-          })
-    ]
+pub returns-then-not-branch-clause-refused : goal.returns-then-not-branch-clause-refused
+returns-then-not-branch-clause-refused c =
+    let r = c.loop-rest.invariant.so_far in
+    let line = c.first_line.result.0.now in
+    let more = lines_of_rest c.first_line.result.1 in
+    let first = here (goal.at.returns-then-not-branch-clause-refused c).After-read_line in
+    let P : Option Event → Type 0 = λ o. ReadsLine r.above line (Ok o) in
+    let told = subst P c.in-Ok-Some.field-0-is (c.in-Ok-Some.ensures.reads r.above r.ended_is) in
+    let brings = c.in_ok-brings_new-in-Ok-Some.ensures r.above.brought r.packets_are in
+    let again = not-false _ (sym brings.0 ∙ c.if-not-branch.true) in
+    inr (refusal c.args.text.now (c.loop-rest.line + 1) fault.NotYet c.at.result c.at.ensures
+    (fault_here r line more first fault.NotYet (repeated r.above line told.0 told.1 c.in-Ok-Some.event told.2 again)))
+
+pub loop-rest-preserved-in-Ok-None : goal.loop-rest-preserved-in-Ok-None
+loop-rest-preserved-in-Ok-None c =
+    let r = c.loop-rest.invariant.so_far in
+    let line = c.first_line.result.0.now in
+    let more = lines_of_rest c.first_line.result.1 in
+    let first = here (goal.at.loop-rest-preserved-in-Ok-None c).After-read_line in
+    let P : Option Event → Type 0 = λ o. ReadsLine r.above line (Ok o) in
+    let told = subst P c.in-Ok-None.field-0-is (c.in-Ok-None.ensures.reads r.above r.ended_is) in
+    record {
+      so_far = more_skipped r line more first told;
+      few_lines = (counted (goal.at.loop-rest-preserved-in-Ok-None c).After-read_line).0;
+      few = (counted (goal.at.loop-rest-preserved-in-Ok-None c).After-read_line).1;
+      in_range = c.loop-rest.invariant.in_range;
+    }
+
+pub loop-rest-preserved : goal.loop-rest-preserved
+loop-rest-preserved c =
+    let r = c.loop-rest.invariant.so_far in
+    let line = c.first_line.result.0.now in
+    let more = lines_of_rest c.first_line.result.1 in
+    let first = here (goal.at.loop-rest-preserved c).After-read_line in
+    let event = c.in-Ok-Some.event in
+    let P : Option Event → Type 0 = λ o. ReadsLine r.above line (Ok o) in
+    let told = subst P c.in-Ok-Some.field-0-is (c.in-Ok-Some.ensures.reads r.above r.ended_is) in
+    let brings = c.in_ok-brings_new-in-Ok-Some.ensures r.above.brought r.packets_are in
+    let new = not-true _ (sym brings.0 ∙ c.if-not-branch.false) in
+    let Q : Option Event → Type 0 = λ o. IfSome o InRange in
+    let in_range = subst Q c.in-Ok-Some.field-0-is c.in-Ok-Some.ensures.in_range in
+    let fewer = counted (goal.at.loop-rest-preserved c).After-read_line in
+    record {
+      so_far = rw (c.in_ok-push-in-Ok-Some.ensures.items, c.is_end-ended.ensures) (more_read r line more first told.0 told.1 event told.2 c.brings_new.new.packets new brings.1);
+      few_lines = fewer.0;
+      few = let pushed = c.in_ok-push-in-Ok-Some.ensures.len in rw pushed (fewer.2 (counted_some line told.0));
+      in_range = rw c.in_ok-push-in-Ok-Some.ensures.items (All-push InRange c.loop-rest.events.items event c.loop-rest.invariant.in_range in_range);
+    }

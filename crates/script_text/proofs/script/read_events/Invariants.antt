@@ -1,12 +1,17 @@
 use Rattle.std.proofs.Common.{◌≤◌, ◌+◌, length, vec_len}
-use Rattle.script_text.proofs.Readings.{ReadSoFar}
+use Rattle.std.specs.List.{All}
+use Rattle.replay_model.specs.Script.{InRange}
+use Rattle.script_text.specs.Lines.{lines_of_rest}
+use Rattle.script_text.proofs.Walking.{ReadSoFar, bytes_left, parts_left}
 use Rattle.script_text.proofs.script.read_events.Given as goal
 
-abbrev pub invariant-loop-line : goal.invariant-loop-line
-invariant-loop-line l = record {
-  so_far : ReadSoFar l.text l.events.items l.rest;
-  few : vec_len l.events + length l.rest ≤ length l.text;
+abbrev pub invariant-loop-rest : goal.invariant-loop-rest
+invariant-loop-rest l = record {
+  so_far : ReadSoFar l.fn.text l.events.items l.line l.ended l.packets (lines_of_rest l.rest);
+  few_lines : l.line + parts_left l.rest ≤ length l.fn.text + 1;
+  few : vec_len l.events + bytes_left l.rest ≤ length l.fn.text;
+  in_range : All InRange l.events.items;
 }
 
-abbrev pub decreases-loop-line : goal.decreases-loop-line
-decreases-loop-line l = length l.rest
+abbrev pub decreases-loop-rest : goal.decreases-loop-rest
+decreases-loop-rest l = parts_left l.rest

@@ -4,7 +4,7 @@ use Rattle.replay_model.specs.Record.{ListsRuns, Ends, counts_of}
 use Rattle.replay_model.specs.Lines.{end_line}
 use Rattle.replay_model.specs.declared.event.Event.TheVariants as event
 use Rattle.replay_world.specs.Stored.{Stored}
-use Rattle.replay_world.proofs.PlaySteps.{applied, plays_one}
+use Rattle.replay_world.proofs.PlaySteps.{applied, plays_one, rose_more}
 use Rattle.replay_world.proofs.world.World.apply.Goals as goal
 
 pub returns-in-Call-clause-step : goal.returns-in-Call-clause-step
@@ -44,3 +44,15 @@ returns-in-End-clause-step c w stands =
     rw c.in-End.is (applied c.put_end.result before after self self w event.End stands (λ b r k. on_ok_weaker c.put_end.result (λ e.
     plays_one before after self b r (Ends (counts_of r))
     (e ∙ ap (λ (t : List ℕ). before ++ t) (ap end_line (ap (λ (s : Stored). s.counts) c.self-in-End.view_is ∙ k.counts))) k) c.put_end.ensures))
+
+pub returns-in-Call-clause-few : goal.returns-in-Call-clause-few
+returns-in-Call-clause-few c = rose_more c.call.result c.args.self.now c.call.new.self c.call.ensures.few
+
+pub returns-in-Deliver-clause-few : goal.returns-in-Deliver-clause-few
+returns-in-Deliver-clause-few c = rose_more c.deliver.result c.args.self.now c.deliver.new.self c.deliver.ensures.few
+
+pub returns-in-Damage-clause-few : goal.returns-in-Damage-clause-few
+returns-in-Damage-clause-few c = rose_more c.damage.result c.args.self.now c.damage.new.self c.damage.ensures.few
+
+pub returns-in-Work-clause-few : goal.returns-in-Work-clause-few
+returns-in-Work-clause-few c = rose_more c.work.result c.args.self.now c.work.new.self c.work.ensures.few

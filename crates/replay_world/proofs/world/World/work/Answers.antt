@@ -7,7 +7,7 @@ use Rattle.replay_model.specs.Record.{Counts, Impossible, Idles, Works, HasRun, 
 use Rattle.replay_model.specs.Lines.{lines_of_act}
 use Rattle.replay_model.specs.World.{World, Server, numbered}
 use Rattle.replay_model.specs.Step.{Outcome, work_event, impossible}
-use Rattle.replay_lines.specs.Digests.{RunDigest, run_digest}
+use Rattle.replay_model.specs.Digests.{RunDigest, run_digest}
 use Rattle.replay_lines.specs.Counts.{counts_run}
 use Rattle.replay_packets.specs.Sent.{sent_of}
 use Rattle.replay_world.specs.Stored.{Stored}
