@@ -6,7 +6,7 @@ use Rattle.rpc_header.specs.declared.CallId.{CallId}
 use Rattle.rpc_header.specs.declared.Export.{Export}
 use Rattle.rpc_header.specs.declared.Header.{Header}
 use Rattle.rpc_header.specs.declared.Kind.{Kind}
-use Rattle.rpc_header.specs.Limits.{data_limit}
+use Rattle.fragments.specs.Pieces as text
 
 pub record Call : Type 0 where
   pub activity : Activity
@@ -48,9 +48,9 @@ fields_of h =
       procedure = h.procedure;
     }
 
--- the most data that one packet carries
+-- the most data that one packet carries, which a full piece has
 abbrev pub piece_size : ℕ
-piece_size = data_limit
+piece_size = text.piece_size
 
 abbrev pub is_same_activity : Activity → Activity → Bool
 is_same_activity a b = (a.machine == b.machine) && (a.process == b.process)

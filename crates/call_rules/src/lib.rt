@@ -5,6 +5,7 @@
 //! cite. The functions here are laws over the tables: each has an empty body, and its contract is the law.
 #![tactic(auto)]
 
+mod caller;
 mod entry;
 mod judgement;
 #[cfg(test)]
@@ -17,6 +18,7 @@ ghost use Rattle.call_rules.specs.Entry.{Word, judge};
 ghost use Rattle.call_rules.specs.declared.entry.Judged.TheVariants as judged;
 ghost use Rattle.call_rules.specs.declared.entry.Phase.TheVariants as phase;
 
+pub use caller::{QUIET_TICKS, TRIES};
 pub use entry::{Judged, Phase};
 pub use judgement::{Seen, judge};
 pub use worker::{Did, Unfit};

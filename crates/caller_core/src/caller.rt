@@ -1,19 +1,21 @@
 //! The caller and its calls.
 
-ghost use Rattle.std.specs.Prelude.{◌≡◌, ◌≤◌};
+ghost use Rattle.std.specs.Prelude.{◌≡◌, ◌≤◌, Some, true, false};
 ghost use Rattle.call_rules.specs.Packet.{call_of, fields_of, is_same_call};
 ghost use Rattle.call_rules.specs.Caller as rules;
 
 use crate::action::Action;
-use rpc_header::{Activity, CallId, CallNumber, Export, Header, Kind, MAX_DATA};
+use crate::state::State;
+use call_rules::{QUIET_TICKS, TRIES};
+use fragments::{LONG, count};
+use rpc_header::{Activity, CallId, CallNumber, Export, Header, Kind};
 use std::marker::Model;
 
-#[derive(Clone, Copy, PartialEq, Eq, Debug)]
-enum State {
-    Idle,
-    /// This piece of the arguments was sent, and isn't answered yet.
-    Sending(u16),
-}
+/// The export that a caller without a binding names.
+const NO_EXPORT: Export = Export {
+    identifier: 0,
+    index: 0,
+};
 
 /// One process of a machine that makes calls, one at a time.
 #[derive(Drop)]
@@ -50,7 +52,7 @@ impl Model for Caller {
 
 impl Caller {
     ghost use Rattle.caller_core.specs.Action.{act_of};
-    ghost use Rattle.caller_core.specs.State.{awaits_reply};
+    ghost use Rattle.caller_core.specs.State.{state_of};
 
     /// A caller that has made no call yet. `hint` is the number of its cell, which each of its packets names.
     pub fn idle(activity: Activity, hint: u16) -> Self
@@ -60,10 +62,7 @@ impl Caller {
             activity,
             hint,
             number: CallNumber { value: 0 },
-            export: Export {
-                identifier: 0,
-                index: 0,
-            },
+            export: NO_EXPORT,
             procedure: 0,
             last_piece: 0,
             state: State::Idle,
@@ -72,17 +71,21 @@ impl Caller {
         }
     }
 
-    /// Whether no call is open.
+    /// The same caller once more, to try a step on.
+    pub fn copied(&self) -> Self
+        ensures { result ≡ self.now }
+    {
+        Caller { ..*self }
+    }
+
+    /// Whether no call and no bind is open.
     pub fn is_idle(&self) -> bool
         ensures { result ≡ rules.is_idle self.now.state }
     {
-        match self.state {
-            State::Idle => true,
-            State::Sending(_) => false,
-        }
+        matches!(self.state, State::Idle)
     }
 
-    /// Starts a call whose arguments have `len` bytes, at most one packet's.
+    /// Starts a call whose arguments have `len` bytes: its first piece is to be sent.
     pub fn start_call(
         &mut self,
         number: CallNumber,
@@ -91,62 +94,185 @@ impl Caller {
         len: usize,
     ) -> Action
         requires idle { self.old.state ≡ rules.Idle }
-        requires one_piece { len ≤ MAX_DATA }
+        requires fits { len ≤ LONG }
         ensures caller { self.new ≡ (rules.on_start_call self.old number.value export procedure len).caller }
         ensures act { act_of result ≡ (rules.on_start_call self.old number.value export procedure len).act }
     {
         self.number = number;
         self.export = export;
         self.procedure = procedure;
-        self.last_piece = 0;
-        self.state = State::Sending(0);
-        self.tries = 1;
-        self.ticks = 0;
-        let header = Header {
-            kind: Kind::Call,
-            please_ack: false,
-            last: true,
-            reason: 0,
-            call: CallId {
-                activity: self.activity,
-                number,
-            },
-            hint: self.hint,
-            fragment: 0,
-            export,
-            procedure,
-        };
+        self.last_piece = count(len) - 1;
+        self.send(0)
+    }
+
+    /// Starts a bind: the name, as the only piece, is to be sent.
+    pub fn start_bind(&mut self, number: CallNumber) -> Action
+        requires idle { self.old.state ≡ rules.Idle }
+        ensures caller { self.new ≡ (rules.on_start_bind self.old number.value).caller }
+        ensures act { act_of result ≡ (rules.on_start_bind self.old number.value).act }
+    {
+        self.number = number;
+        self.enter(State::Binding, 1);
         Action::Send {
-            header,
+            header: self.bind(),
             piece: Some(0),
         }
     }
 
     /// Takes a packet. One that the caller's table has no row for is unused, and changes nothing.
+    #[tactic(auto, using(crate::proofs::Rows::same_number, crate::proofs::Rows::unused_keeps))]
     pub fn on_packet(&mut self, header: &Header) -> Action
         ensures caller { self.new ≡ (rules.on_packet self.old (fields_of header.now)).caller }
         ensures act { act_of result ≡ (rules.on_packet self.old (fields_of header.now)).act }
+        ensures same_call { self.new.number ≡ self.old.number }
+        ensures unused { act_of result ≡ rules.Unused → self.new ≡ self.old }
     {
-        let ends = self.is_current(header.call)
-            && self.awaits_reply()
-            && header.fragment == 0
-            && header.last;
+        if !self.is_current(header.call) {
+            return Action::Unused;
+        }
         match header.kind {
-            Kind::Result if ends => self.end(false),
-            Kind::Signal if ends => self.end(true),
-            _ => Action::Unused,
+            Kind::Ack => self.on_ack(header),
+            Kind::Result => self.on_result(header),
+            Kind::Signal => self.on_signal(header),
+            Kind::Reject => self.on_reject(header),
+            Kind::Bound => self.on_bound(header),
+            Kind::Call | Kind::Probe | Kind::Bind => Action::Unused,
         }
     }
 
-    /// The reply is whole.
-    fn end(&mut self, signal: bool) -> Action
-        ensures caller { self.new ≡ (rules.row self.old rules.Idle 0 0 (rules.Last signal)).caller }
-        ensures act { act_of result ≡ rules.Last signal }
+    /// Takes a tick. At an idle caller it has no row, and is unused.
+    pub fn on_tick(&mut self) -> Action
+        ensures caller { self.new ≡ (rules.on_tick self.old).caller }
+        ensures act { act_of result ≡ (rules.on_tick self.old).act }
     {
-        self.state = State::Idle;
-        self.tries = 0;
-        self.ticks = 0;
-        Action::Last { signal }
+        if self.is_idle() {
+            return Action::Unused;
+        }
+        if self.ticks < QUIET_TICKS {
+            self.ticks += 1;
+            return Action::Quiet;
+        }
+        if self.tries < TRIES {
+            self.tries += 1;
+            self.ticks = 0;
+            return self.sent_again();
+        }
+        self.abandon();
+        Action::Failed
+    }
+
+    /// Gives the call or the bind up.
+    pub fn abandon(&mut self)
+        ensures { self.new ≡ rules.abandoned self.old }
+    {
+        self.enter(State::Idle, 0);
+    }
+
+    /// Whether [`Caller::on_packet`] would begin a reply of many pieces by this packet.
+    pub fn begins_long(&self, header: &Header) -> bool
+        ensures { result ≡ rules.begins_long self.now (fields_of header.now) }
+    {
+        self.is_current(header.call)
+            && header.kind == Kind::Result
+            && self.awaits_reply()
+            && header.fragment == 0
+            && !header.last
+    }
+}
+
+/// The steps that a packet of the caller's call makes, a kind each.
+impl Caller {
+    ghost use Rattle.caller_core.specs.Action.{act_of};
+    ghost use Rattle.caller_core.specs.State.{is_due, state_of};
+
+    fn on_ack(&mut self, header: &Header) -> Action
+        ensures caller { self.new ≡ (rules.on_ack self.old self.old.state (fields_of header.now)).caller }
+        ensures act { act_of result ≡ (rules.on_ack self.old self.old.state (fields_of header.now)).act }
+    {
+        match self.state {
+            State::Sending(piece) if piece < self.last_piece => {
+                if header.fragment == piece {
+                    self.send(piece + 1)
+                } else {
+                    Action::Unused
+                }
+            }
+            State::Sending(piece) if piece == self.last_piece => self.on_last_ack(header),
+            State::Waiting => self.on_last_ack(header),
+            State::Idle | State::Sending(_) | State::Receiving { .. } | State::Binding => {
+                Action::Unused
+            }
+        }
+    }
+
+    /// The server has the last piece.
+    fn on_last_ack(&mut self, header: &Header) -> Action
+        ensures caller { self.new ≡ (rules.on_ack self.old rules.Waiting (fields_of header.now)).caller }
+        ensures act { act_of result ≡ (rules.on_ack self.old rules.Waiting (fields_of header.now)).act }
+    {
+        if header.fragment != self.last_piece {
+            return Action::Unused;
+        }
+        self.enter(State::Waiting, 0);
+        Action::Waiting
+    }
+
+    fn on_result(&mut self, header: &Header) -> Action
+        ensures caller { self.new ≡ (rules.on_result self.old self.old.state (fields_of header.now)).caller }
+        ensures act { act_of result ≡ (rules.on_result self.old self.old.state (fields_of header.now)).act }
+    {
+        if !self.is_due(header.fragment) {
+            return Action::Unused;
+        }
+        if header.last {
+            self.abandon();
+            return Action::Last { signal: false };
+        }
+        let kept = header.fragment;
+        self.enter(State::Receiving { kept }, 1);
+        Action::Keep {
+            ack: self.acknowledgement(kept),
+        }
+    }
+
+    fn on_signal(&mut self, header: &Header) -> Action
+        ensures caller { self.new ≡ (rules.on_signal self.old self.old.state (fields_of header.now)).caller }
+        ensures act { act_of result ≡ (rules.on_signal self.old self.old.state (fields_of header.now)).act }
+    {
+        if self.awaits_reply() && header.fragment == 0 && header.last {
+            self.abandon();
+            Action::Last { signal: true }
+        } else {
+            Action::Unused
+        }
+    }
+
+    fn on_reject(&mut self, header: &Header) -> Action
+        ensures caller { self.new ≡ (rules.on_reject self.old self.old.state (fields_of header.now)).caller }
+        ensures act { act_of result ≡ (rules.on_reject self.old self.old.state (fields_of header.now)).act }
+    {
+        match self.state {
+            State::Idle | State::Binding => Action::Unused,
+            State::Sending(_) | State::Waiting | State::Receiving { .. } => {
+                self.abandon();
+                Action::Refused(header.reason)
+            }
+        }
+    }
+
+    fn on_bound(&mut self, header: &Header) -> Action
+        ensures caller { self.new ≡ (rules.on_bound self.old self.old.state (fields_of header.now)).caller }
+        ensures act { act_of result ≡ (rules.on_bound self.old self.old.state (fields_of header.now)).act }
+    {
+        if self.state != State::Binding {
+            return Action::Unused;
+        }
+        self.abandon();
+        if header.reason == 0 {
+            Action::Bound(header.export)
+        } else {
+            Action::Unbound
+        }
     }
 
     /// Whether the call is the one that the caller made last.
@@ -156,13 +282,128 @@ impl Caller {
         call.activity == self.activity && call.number == self.number
     }
 
-    /// Whether the last piece of the arguments was sent and isn't answered yet.
+    /// Whether all pieces of the arguments were sent, and no piece of a reply has come.
     fn awaits_reply(&self) -> bool
-        ensures { result ≡ awaits_reply self.now }
+        ensures { result ≡ rules.awaits_reply self.now self.now.state }
     {
         match self.state {
-            State::Idle => false,
             State::Sending(piece) => piece == self.last_piece,
+            State::Waiting => true,
+            State::Idle | State::Receiving { .. } | State::Binding => false,
         }
+    }
+
+    /// Whether this piece of the reply is due.
+    fn is_due(&self, fragment: u16) -> bool
+        ensures { result ≡ is_due self.now self.now.state fragment }
+    {
+        match self.state {
+            State::Receiving { kept } => u32::from(fragment) == u32::from(kept) + 1,
+            State::Idle | State::Sending(_) | State::Waiting | State::Binding => {
+                self.awaits_reply() && fragment == 0
+            }
+        }
+    }
+
+    /// Sends a piece of the arguments for the first time.
+    fn send(&mut self, piece: u16) -> Action
+        ensures caller { self.new ≡ record self.old { state = rules.Sending piece; tries = 1; ticks = 0 } }
+        ensures act { act_of result ≡ rules.Send (rules.first_sending self.old piece) (Some piece) }
+    {
+        self.enter(State::Sending(piece), 1);
+        Action::Send {
+            header: self.first_sending(piece),
+            piece: Some(piece),
+        }
+    }
+
+    /// Waits for something else, which was transmitted so often.
+    fn enter(&mut self, state: State, tries: u8)
+        ensures { self.new ≡ record self.old { state = state_of state; tries = tries; ticks = 0 } }
+    {
+        self.state = state;
+        self.tries = tries;
+        self.ticks = 0;
+    }
+}
+
+/// What a caller sends. Each packet names the caller's call and cell.
+impl Caller {
+    ghost use Rattle.caller_core.specs.Action.{act_of};
+
+    fn first_sending(&self, piece: u16) -> Header
+        ensures { fields_of result ≡ rules.first_sending self.now piece }
+    {
+        let last = piece == self.last_piece;
+        Header {
+            please_ack: !last,
+            last,
+            ..self.header(Kind::Call, piece)
+        }
+    }
+
+    fn acknowledgement(&self, piece: u16) -> Header
+        ensures { fields_of result ≡ rules.acknowledgement self.now piece }
+    {
+        self.header(Kind::Ack, piece)
+    }
+
+    fn bind(&self) -> Header
+        ensures { fields_of result ≡ rules.bind self.now }
+    {
+        Header {
+            export: NO_EXPORT,
+            procedure: 0,
+            ..self.header(Kind::Bind, 0)
+        }
+    }
+
+    fn sent_again(&self) -> Action
+        ensures { act_of result ≡ rules.sent_again self.now self.now.state }
+    {
+        let (header, piece) = match self.state {
+            State::Idle => return Action::Unused,
+            State::Sending(piece) => (asking(self.first_sending(piece)), Some(piece)),
+            State::Waiting => (self.probe(), None),
+            State::Receiving { kept } => (self.acknowledgement(kept), None),
+            State::Binding => (self.bind(), Some(0)),
+        };
+        Action::Send { header, piece }
+    }
+
+    fn probe(&self) -> Header
+        ensures { fields_of result ≡ rules.probe self.now }
+    {
+        asking(self.header(Kind::Probe, self.last_piece))
+    }
+
+    /// A header that asks for nothing, of the only or last piece.
+    fn header(&self, kind: Kind, fragment: u16) -> Header
+        ensures { fields_of result ≡ rules.caller_header self.now kind false true fragment }
+    {
+        Header {
+            kind,
+            please_ack: false,
+            last: true,
+            reason: 0,
+            call: CallId {
+                activity: self.activity,
+                number: self.number,
+            },
+            hint: self.hint,
+            fragment,
+            export: self.export,
+            procedure: self.procedure,
+        }
+    }
+}
+
+/// The same packet, which asks for an acknowledgement.
+fn asking(header: Header) -> Header
+    ensures { fields_of result ≡ record (fields_of header) { please_ack = true } }
+{
+    Header {
+        please_ack: true,
+        ..header
     }
 }

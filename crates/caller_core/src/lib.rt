@@ -7,6 +7,7 @@
 
 mod action;
 mod caller;
+mod state;
 
 pub use action::Action;
 pub use caller::Caller;

@@ -1,59 +1,397 @@
-//! One call from its start to its reply.
+//! The caller's table, row by row: every state, with every packet and tick.
 
 use crate::{Action, Caller};
-use rpc_header::{Activity, CallNumber, Export, Header, Kind};
-use std::test::Fail;
+use rpc_header::{Activity, CallId, CallNumber, Export, Header, Kind};
 
-fn export() -> Export {
-    Export {
-        identifier: 1,
-        index: 0,
-    }
+const NUMBER: CallNumber = CallNumber { value: 65536 };
+
+const ACTIVITY: Activity = Activity {
+    machine: 2,
+    process: 1,
+};
+
+const EXPORT: Export = Export {
+    identifier: 7,
+    index: 3,
+};
+
+/// The states that the table is tried at. A call has pieces 0, 1 and 2.
+#[derive(Clone, Copy)]
+enum At {
+    Idle,
+    Sending0,
+    Sending1,
+    Sending2,
+    Waiting,
+    Receiving1,
+    Receiving2,
+    Binding,
 }
 
-/// A caller that has started call 65536 of procedure 4, and the header that it sends.
-fn started() -> Result<(Caller, Header), Fail> {
-    let activity = Activity {
-        machine: 2,
-        process: 1,
+/// A caller that has come to this state.
+fn caller_at(at: At) -> Caller {
+    let mut caller = Caller::idle(ACTIVITY, 9);
+    match at {
+        At::Idle => return caller,
+        At::Binding => {
+            caller.start_bind(NUMBER);
+            return caller;
+        }
+        _ => caller.start_call(NUMBER, EXPORT, 4, 3000),
     };
-    let mut caller = Caller::idle(activity, 0);
-    let number = CallNumber { value: 65536 };
-    match caller.start_call(number, export(), 4, 8) {
-        Action::Send { header, .. } => Ok((caller, header)),
-        _ => Err(Fail::from("nothing to send")),
+    if matches!(at, At::Sending0) {
+        return caller;
+    }
+    caller.on_packet(&ack(0));
+    if matches!(at, At::Sending1) {
+        return caller;
+    }
+    caller.on_packet(&ack(1));
+    match at {
+        At::Waiting => {
+            caller.on_packet(&ack(2));
+        }
+        At::Receiving1 => {
+            caller.on_packet(&result(0, false));
+        }
+        At::Receiving2 => {
+            caller.on_packet(&result(0, false));
+            caller.on_packet(&result(1, false));
+        }
+        _ => {}
+    }
+    caller
+}
+
+/// A packet of the call: with the last flag, and without a request.
+fn packet(kind: Kind, fragment: u16) -> Header {
+    Header {
+        kind,
+        please_ack: false,
+        last: true,
+        reason: 0,
+        call: CallId {
+            activity: ACTIVITY,
+            number: NUMBER,
+        },
+        hint: 9,
+        fragment,
+        export: EXPORT,
+        procedure: 4,
+    }
+}
+
+fn ack(fragment: u16) -> Header {
+    packet(Kind::Ack, fragment)
+}
+
+fn result(fragment: u16, last: bool) -> Header {
+    Header {
+        please_ack: !last,
+        last,
+        ..packet(Kind::Result, fragment)
+    }
+}
+
+fn refusal(kind: Kind, reason: u8) -> Header {
+    Header {
+        reason,
+        ..packet(kind, 0)
+    }
+}
+
+/// A piece of the arguments before the last, which asks for an acknowledgement each time.
+fn piece(fragment: u16) -> Action {
+    Action::Send {
+        header: Header {
+            please_ack: true,
+            last: false,
+            ..packet(Kind::Call, fragment)
+        },
+        piece: Some(fragment),
+    }
+}
+
+fn last_piece() -> Action {
+    Action::Send {
+        header: packet(Kind::Call, 2),
+        piece: Some(2),
+    }
+}
+
+fn asking(header: Header, piece: Option<u16>) -> Action {
+    Action::Send {
+        header: Header {
+            please_ack: true,
+            ..header
+        },
+        piece,
+    }
+}
+
+fn kept(fragment: u16) -> Action {
+    Action::Keep { ack: ack(fragment) }
+}
+
+fn bind() -> Header {
+    Header {
+        export: Export {
+            identifier: 0,
+            index: 0,
+        },
+        procedure: 0,
+        ..packet(Kind::Bind, 0)
+    }
+}
+
+/// The packets that have a row somewhere, each column of the table below.
+fn packets() -> [Header; 12] {
+    [
+        ack(0),
+        ack(1),
+        ack(2),
+        result(0, true),
+        packet(Kind::Signal, 0),
+        result(0, false),
+        result(1, false),
+        result(1, true),
+        refusal(Kind::Reject, 2),
+        packet(Kind::Bound, 0),
+        refusal(Kind::Bound, 1),
+        result(2, true),
+    ]
+}
+
+/// Whether the packets have these acts at this state, and only those that end a call or a bind leave it.
+fn has_acts(at: At, acts: [Action; 12]) -> bool {
+    let packets = packets();
+    for place in 0..12 {
+        let mut caller = caller_at(at);
+        if caller.on_packet(&packets[place]) != acts[place] {
+            return false;
+        }
+        if caller.is_idle() != (matches!(at, At::Idle) || ends(acts[place])) {
+            return false;
+        }
+    }
+    true
+}
+
+fn ends(act: Action) -> bool {
+    matches!(
+        act,
+        Action::Last { .. } | Action::Refused(_) | Action::Bound(_) | Action::Unbound
+    )
+}
+
+const NONE: Action = Action::Unused;
+
+const REPLY: Action = Action::Last { signal: false };
+
+const SIGNAL: Action = Action::Last { signal: true };
+
+const REFUSED: Action = Action::Refused(2);
+
+const WAITS: Action = Action::Waiting;
+
+#[test]
+fn packets_at_each_state(rt: HostRuntime) {
+    let (one, two) = (piece(1), last_piece());
+    let (zero_kept, one_kept) = (kept(0), kept(1));
+    let found = Action::Bound(EXPORT);
+    let acts = [NONE; 12];
+    assert!(rt; has_acts(At::Idle, acts));
+    let acts = [
+        one, NONE, NONE, NONE, NONE, NONE, NONE, NONE, REFUSED, NONE, NONE, NONE,
+    ];
+    assert!(rt; has_acts(At::Sending0, acts));
+    let acts = [
+        NONE, two, NONE, NONE, NONE, NONE, NONE, NONE, REFUSED, NONE, NONE, NONE,
+    ];
+    assert!(rt; has_acts(At::Sending1, acts));
+    let acts = [
+        NONE, NONE, WAITS, REPLY, SIGNAL, zero_kept, NONE, NONE, REFUSED, NONE, NONE, NONE,
+    ];
+    assert!(rt; has_acts(At::Sending2, acts));
+    assert!(rt; has_acts(At::Waiting, acts));
+    let acts = [
+        NONE, NONE, NONE, NONE, NONE, NONE, one_kept, REPLY, REFUSED, NONE, NONE, NONE,
+    ];
+    assert!(rt; has_acts(At::Receiving1, acts));
+    let acts = [
+        NONE, NONE, NONE, NONE, NONE, NONE, NONE, NONE, REFUSED, NONE, NONE, REPLY,
+    ];
+    assert!(rt; has_acts(At::Receiving2, acts));
+    let acts = [
+        NONE,
+        NONE,
+        NONE,
+        NONE,
+        NONE,
+        NONE,
+        NONE,
+        NONE,
+        NONE,
+        found,
+        Action::Unbound,
+        NONE,
+    ];
+    assert!(rt; has_acts(At::Binding, acts));
+}
+
+/// The states in which a call or a bind is open.
+fn open_states() -> [At; 7] {
+    [
+        At::Sending0,
+        At::Sending1,
+        At::Sending2,
+        At::Waiting,
+        At::Receiving1,
+        At::Receiving2,
+        At::Binding,
+    ]
+}
+
+#[test]
+fn packets_of_another_call_and_kinds_for_a_server_are_unused(rt: HostRuntime) {
+    for at in open_states() {
+        let mut caller = caller_at(at);
+        for header in packets() {
+            let mut other = header;
+            other.call.number = CallNumber { value: 65535 };
+            assert!(rt; caller.on_packet(&other) == Action::Unused);
+        }
+        for kind in [Kind::Call, Kind::Probe, Kind::Bind] {
+            assert!(rt; caller.on_packet(&packet(kind, 0)) == Action::Unused);
+        }
+        assert!(rt; !caller.is_idle());
+    }
+}
+
+/// Whether the caller is quiet for three ticks, and then does this.
+fn fourth_tick_is(caller: &mut Caller, act: Action) -> bool {
+    for _ in 0..3 {
+        if caller.on_tick() != Action::Quiet {
+            return false;
+        }
+    }
+    caller.on_tick() == act
+}
+
+/// What each state sends again.
+fn sent_again(at: At) -> Action {
+    match at {
+        At::Idle => Action::Unused,
+        At::Sending0 => piece(0),
+        At::Sending1 => piece(1),
+        At::Sending2 => asking(packet(Kind::Call, 2), Some(2)),
+        At::Waiting => asking(packet(Kind::Probe, 2), None),
+        At::Receiving1 => Action::Send {
+            header: ack(0),
+            piece: None,
+        },
+        At::Receiving2 => Action::Send {
+            header: ack(1),
+            piece: None,
+        },
+        At::Binding => Action::Send {
+            header: bind(),
+            piece: Some(0),
+        },
     }
 }
 
 #[test]
-fn a_call_is_sent_in_one_packet(rt: HostRuntime) -> Result<(), Fail> {
-    let (caller, header) = started()?;
-    assert!(rt; !caller.is_idle());
-    assert!(rt; header.kind == Kind::Call && !header.please_ack && header.last);
-    assert_eq!(rt; header.call.number.value, 65536);
-    assert_eq!(rt; header.fragment, 0);
-    assert_eq!(rt; header.procedure, 4);
-    Ok(())
+fn eight_transmissions_without_an_answer_fail(rt: HostRuntime) {
+    for at in open_states() {
+        let mut caller = caller_at(at);
+        if matches!(at, At::Waiting) {
+            assert!(rt; fourth_tick_is(&mut caller, sent_again(at)));
+        }
+        for _ in 0..7 {
+            assert!(rt; fourth_tick_is(&mut caller, sent_again(at)));
+        }
+        assert!(rt; fourth_tick_is(&mut caller, Action::Failed));
+        assert!(rt; caller.is_idle());
+        assert!(rt; caller.on_tick() == Action::Unused);
+    }
 }
 
 #[test]
-fn a_result_ends_its_call_alone(rt: HostRuntime) -> Result<(), Fail> {
-    let (mut caller, mut header) = started()?;
-    header.kind = Kind::Result;
-    let mut other = header;
-    other.call.number = CallNumber { value: 65537 };
-    assert!(rt; caller.on_packet(&other) == Action::Unused);
-    assert!(rt; caller.on_packet(&header) == Action::Last { signal: false });
-    assert!(rt; caller.is_idle());
-    assert!(rt; caller.on_packet(&header) == Action::Unused);
-    Ok(())
+fn an_answer_starts_the_count_anew(rt: HostRuntime) {
+    let mut caller = caller_at(At::Sending1);
+    for _ in 0..6 {
+        assert!(rt; fourth_tick_is(&mut caller, piece(1)));
+    }
+    assert!(rt; caller.on_packet(&ack(1)) == last_piece());
+    for _ in 0..7 {
+        assert!(rt; fourth_tick_is(&mut caller, sent_again(At::Sending2)));
+    }
+    assert!(rt; caller.on_packet(&ack(2)) == Action::Waiting);
+    for _ in 0..8 {
+        assert!(rt; fourth_tick_is(&mut caller, sent_again(At::Waiting)));
+    }
+    assert!(rt; caller.on_packet(&ack(2)) == Action::Waiting);
+    assert!(rt; fourth_tick_is(&mut caller, sent_again(At::Waiting)));
 }
 
 #[test]
-fn a_signal_ends_its_call(rt: HostRuntime) -> Result<(), Fail> {
-    let (mut caller, mut header) = started()?;
-    header.kind = Kind::Signal;
-    assert!(rt; caller.on_packet(&header) == Action::Last { signal: true });
-    assert!(rt; caller.is_idle());
-    Ok(())
+fn starts_send_the_first_piece(rt: HostRuntime) {
+    for len in [0, 1, 1440] {
+        let mut caller = caller_at(At::Idle);
+        let sent = Action::Send {
+            header: packet(Kind::Call, 0),
+            piece: Some(0),
+        };
+        assert!(rt; caller.start_call(NUMBER, EXPORT, 4, len) == sent);
+        assert!(rt; caller.on_packet(&result(0, true)) == REPLY);
+        assert!(rt; caller.is_idle());
+    }
+    for len in [1441, 92160] {
+        let mut caller = caller_at(At::Idle);
+        assert!(rt; caller.start_call(NUMBER, EXPORT, 4, len) == piece(0));
+        assert!(rt; caller.on_packet(&result(0, true)) == Action::Unused);
+    }
+    let mut caller = caller_at(At::Idle);
+    let sent = Action::Send {
+        header: bind(),
+        piece: Some(0),
+    };
+    assert!(rt; caller.start_bind(NUMBER) == sent);
+}
+
+#[test]
+fn the_longest_call_has_64_pieces(rt: HostRuntime) {
+    let mut caller = caller_at(At::Idle);
+    caller.start_call(NUMBER, EXPORT, 4, 92160);
+    for number in 0..62 {
+        assert!(rt; caller.on_packet(&ack(number)) == piece(number + 1));
+    }
+    let last = Action::Send {
+        header: packet(Kind::Call, 63),
+        piece: Some(63),
+    };
+    assert!(rt; caller.on_packet(&ack(62)) == last);
+    assert!(rt; caller.on_packet(&ack(63)) == Action::Waiting);
+}
+
+#[test]
+fn a_long_reply_begins_by_its_first_piece_alone(rt: HostRuntime) {
+    for at in open_states() {
+        let caller = caller_at(at);
+        let awaits = matches!(at, At::Sending2 | At::Waiting);
+        assert!(rt; caller.begins_long(&result(0, false)) == awaits);
+        assert!(rt; !caller.begins_long(&result(0, true)));
+        assert!(rt; !caller.begins_long(&result(1, false)));
+    }
+}
+
+#[test]
+fn a_caller_that_gives_up_is_idle(rt: HostRuntime) {
+    for at in open_states() {
+        let mut caller = caller_at(at);
+        let copy = caller.copied();
+        caller.abandon();
+        assert!(rt; caller.is_idle() && !copy.is_idle());
+    }
 }

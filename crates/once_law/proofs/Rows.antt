@@ -1,18 +1,20 @@
 -- What the rows of the rule tables say that the invariant needs.
-use Rattle.std.proofs.Common.{◌≡◌, ℕ, zero, suc, ◌+◌, ◌<◌, List, [], ◌∷◌, length, drop, Bool, true, false, cond, refl, ap, ◌∙◌, arith, eqb, eqb-true, leb}
+use Rattle.std.proofs.Common.{◌≡◌, ℕ, zero, suc, ◌+◌, ◌<◌, List, [], ◌∷◌, length, drop, Bool, true, false, cond, refl, ap, ◌∙◌, arith, eqb, eqb-true, leb, ltb, Option, Some}
+use Rattle.std.specs.Prelude.{◌==◌, ◌&&◌}
 use Rattle.std.proofs.lemmas.Bool.{false≢true, and_parts, cond_both}
 use Rattle.std.proofs.lemmas.List.Elements.{All-nil, All-cons}
 use Rattle.byteorder.specs.Endian.{big_bytes, big_number}
 use Rattle.once_law.proofs.Framing.{number_bytes}
 use Rattle.once_law.proofs.Parts.{IsOnePiece, answer_kind}
 use Rattle.rpc_header.specs.declared.Activity.{Activity}
+use Rattle.rpc_header.specs.declared.Export.{Export}
 use Rattle.rpc_header.specs.declared.Kind.{Kind}
 use Rattle.rpc_header.specs.declared.Kind.TheVariants as kind
 use Rattle.call_rules.specs.Packet.{Call, Fields, is_same_call, is_same_activity}
 use Rattle.call_rules.specs.Entry.{Word, is_same_phase, is_same_word}
 use Rattle.call_rules.specs.declared.entry.Phase.{Phase}
 use Rattle.call_rules.specs.declared.entry.Phase.TheVariants as phase
-use Rattle.call_rules.specs.Caller.{Caller, State, Act, Last, is_idle, current_call, on_packet, on_own_packet, unused, row}
+use Rattle.call_rules.specs.Caller.{Caller, State, Step, Act, Last, is_idle, current_call, awaits_reply, first_sending, acknowledgement, on_packet, on_own_packet, on_ack, on_result, on_signal, on_reject, on_bound, unused, row}
 use Rattle.call_rules.specs.Caller as caller
 use Rattle.replay_model.specs.Script.{largest_number}
 use Rattle.replay_model.specs.Service.{served, adds, replies, raises}
@@ -61,14 +63,80 @@ pub record IsLast (c : Caller) (k : Kind) (signal : Bool) (after : Caller) : Typ
   pub same_activity : after.activity ≡ c.activity
   pub same_hint : after.hint ≡ c.hint
 
-last_of : (c : Caller) (k : Kind) (b s signal : Bool) (h : Fields) → k ≡ answer_kind s → (cond b (row c caller.Idle 0 0 (Last s)) (unused c)).act ≡ Last signal → IsLast c k signal (cond b (row c caller.Idle 0 0 (Last s)) (unused c)).caller
-last_of c k true s signal h e a = record { same_kind = e ∙ ap answer_kind (cc); is_idle_now = refl; same_activity = refl; same_hint = refl }
-last_of c k false s signal h e a = cc
+-- a step ends a call by a whole reply only as a packet of this kind may
+abbrev EndsAs : Caller → Kind → Step → Type 0
+EndsAs c k s = (signal : Bool) → s.act ≡ Last signal → IsLast c k signal s.caller
 
-pub last_of_own_packet : (c : Caller) (s : State) (k : Kind) (h : Fields) (signal : Bool) → (on_own_packet c s k h).act ≡ Last signal → IsLast c k signal (on_own_packet c s k h).caller
-last_of_own_packet c (caller.Sending i) kind.Result h signal e = last_of c kind.Result _ false signal h refl e
-last_of_own_packet c (caller.Sending i) kind.Signal h signal e = last_of c kind.Signal _ true signal h refl e
-last_of_own_packet c _ _ h signal e = cc
+either : {c : Caller} {k : Kind} (b : Bool) (x y : Step) → EndsAs c k x → EndsAs c k y → EndsAs c k (cond b x y)
+either true x y p q = p
+either false x y p q = q
+
+-- the rows that end a call by a whole reply
+ends : (c : Caller) (k : Kind) (s : Bool) → k ≡ answer_kind s → EndsAs c k (row c caller.Idle 0 0 (Last s))
+ends c k s e signal a = record { same_kind = e ∙ ap answer_kind (cc); is_idle_now = refl; same_activity = refl; same_hint = refl }
+
+-- the other rows don't
+no_row : (c : Caller) (k : Kind) → EndsAs c k (unused c)
+no_row c k signal a = cc
+
+keeps : (c : Caller) (k : Kind) (s : State) (h : Fields) → EndsAs c k (row c s 1 0 (caller.Keep h))
+keeps c k s h signal a = cc
+
+sends : (c : Caller) (k : Kind) (s : State) (h : Fields) (piece : Option ℕ) → EndsAs c k (row c s 1 0 (caller.Send h piece))
+sends c k s h piece signal a = cc
+
+waits : (c : Caller) (k : Kind) → EndsAs c k (row c caller.Waiting 0 0 caller.TellsWaiting)
+waits c k signal a = cc
+
+refused : (c : Caller) (reason : ℕ) → EndsAs c kind.Reject (row c caller.Idle 0 0 (caller.Refused reason))
+refused c reason signal a = cc
+
+answered : (c : Caller) (b : Bool) (export : Export) → EndsAs c kind.Bound (row c caller.Idle 0 0 (cond b (caller.Bound export) caller.Unbound))
+answered c true export signal a = cc
+answered c false export signal a = cc
+
+last_of_ack : (c : Caller) (s : State) (h : Fields) → EndsAs c kind.Ack (on_ack c s h)
+last_of_ack c (caller.Sending i) h =
+    either (ltb i c.final) _ _
+    (either (h.fragment == i) _ _ (sends c kind.Ack (caller.Sending (i + 1)) (first_sending c (i + 1)) (Some (i + 1))) (no_row c kind.Ack))
+    (either ((i == c.final) && (h.fragment == c.final)) _ _ (waits c kind.Ack) (no_row c kind.Ack))
+last_of_ack c caller.Waiting h = either (h.fragment == c.final) _ _ (waits c kind.Ack) (no_row c kind.Ack)
+last_of_ack c _ h = no_row c kind.Ack
+
+last_of_first : (c : Caller) (h : Fields) → EndsAs c kind.Result (cond h.last (row c caller.Idle 0 0 (Last false)) (row c (caller.Receiving 1) 1 0 (caller.Keep (acknowledgement c 0))))
+last_of_first c h =
+    either h.last _ _ (ends c kind.Result false refl) (keeps c kind.Result (caller.Receiving 1) (acknowledgement c 0))
+
+last_of_result : (c : Caller) (s : State) (h : Fields) → EndsAs c kind.Result (on_result c s h)
+last_of_result c (caller.Receiving j) h =
+    either (h.fragment == j) _ _
+    (either h.last _ _ (ends c kind.Result false refl) (keeps c kind.Result (caller.Receiving (j + 1)) (acknowledgement c j))) (no_row c kind.Result)
+last_of_result c (caller.Sending i) h = either ((i == c.final) && (h.fragment == 0)) _ _ (last_of_first c h) (no_row c kind.Result)
+last_of_result c caller.Waiting h = either (h.fragment == 0) _ _ (last_of_first c h) (no_row c kind.Result)
+last_of_result c _ h = no_row c kind.Result
+
+last_of_signal : (c : Caller) (s : State) (h : Fields) → EndsAs c kind.Signal (on_signal c s h)
+last_of_signal c s h =
+    either (awaits_reply c s && (h.fragment == 0) && h.last) _ _ (ends c kind.Signal true refl) (no_row c kind.Signal)
+
+last_of_reject : (c : Caller) (s : State) (h : Fields) → EndsAs c kind.Reject (on_reject c s h)
+last_of_reject c caller.Idle h = no_row c kind.Reject
+last_of_reject c caller.Binding h = no_row c kind.Reject
+last_of_reject c (caller.Sending i) h = refused c h.reason
+last_of_reject c caller.Waiting h = refused c h.reason
+last_of_reject c (caller.Receiving j) h = refused c h.reason
+
+last_of_bound : (c : Caller) (s : State) (h : Fields) → EndsAs c kind.Bound (on_bound c s h)
+last_of_bound c caller.Binding h = answered c (h.reason == 0) h.export
+last_of_bound c _ h = no_row c kind.Bound
+
+pub last_of_own_packet : (c : Caller) (s : State) (k : Kind) (h : Fields) → EndsAs c k (on_own_packet c s k h)
+last_of_own_packet c s kind.Ack h = last_of_ack c s h
+last_of_own_packet c s kind.Result h = last_of_result c s h
+last_of_own_packet c s kind.Signal h = last_of_signal c s h
+last_of_own_packet c s kind.Reject h = last_of_reject c s h
+last_of_own_packet c s kind.Bound h = last_of_bound c s h
+last_of_own_packet c s k h = no_row c k
 
 -- a packet by which the reply is whole is of the caller's call
 pub last_of_packet : (c : Caller) (h : Fields) (signal : Bool) → (on_packet c h).act ≡ Last signal → (h.call ≡ current_call c) × IsLast c h.kind signal (on_packet c h).caller

@@ -1,5 +1,4 @@
 pub mod Boot
-pub mod CallerRules
 pub mod ClientSteps
 pub mod Numbered
 pub mod PlaySteps

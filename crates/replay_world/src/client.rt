@@ -157,8 +157,12 @@ impl ClientLine {
         if self.number.value != packet.header.call.number.value {
             return Took::Stale;
         }
-        match self.caller.on_packet(&packet.header) {
-            Action::Last { signal } => Took::Returned { signal },
+        let mut after = self.caller.copied();
+        match after.on_packet(&packet.header) {
+            Action::Last { signal } => {
+                self.caller = after;
+                Took::Returned { signal }
+            }
             _ => Took::Unused,
         }
     }

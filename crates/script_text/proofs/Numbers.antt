@@ -1,16 +1,15 @@
--- Words that are numbers: what `parse` reads of them, the tests of their faults, and the numbers that they spell.
-use Rattle.std.proofs.Common.{◌≡◌, ℕ, zero, suc, ◌<◌, ◌≤◌, ◌^◌, ◌&&◌, ◌==◌, Bool, true, false, List, [], ◌∷◌, length, get_or, Result, Ok, Err, Some, None, MatchOption, ap, arith, inl, inr, sym, refl, ◌∙◌}
+-- Words that are numbers: the number that their digits write, the tests of their faults, and the numbers that they spell.
+use Rattle.std.proofs.Common.{◌≡◌, ℕ, zero, suc, ◌+◌, ◌-◌, ◌*◌, ◌<◌, ◌≤◌, ◌^◌, ◌&&◌, ◌==◌, Bool, true, false, List, [], ◌∷◌, length, drop, get_or, Some, None, ap, arith, inl, inr, sym, refl, ◌∙◌}
 use Rattle.std.specs.Prelude.{nat_lt, nat_le}
 use Rattle.std.specs.List.{list_all}
-use Rattle.std.specs.Char.{is_ascii_digit}
+use Rattle.std.specs.Char.{is_ascii_digit, digit_value}
 use Rattle.std.specs.Fmt.{decimal}
-use Rattle.std.specs.Str.{IsUtf8, all_ascii_digits}
-use Rattle.std.specs.Str.Parse.{ParsesUnsigned, AllDigits, digits_value}
-use Rattle.std.specs.Result.{OkIff, result_ok}
+use Rattle.std.specs.Str.{all_ascii_digits}
+use Rattle.std.specs.Str.Parse.{AllDigits, digits_value, digits_value_after}
 use Rattle.std.proofs.lemmas.Bool.{eqb-true, ltb-true, lt-ltb, leb-true, le-leb, and_parts, and_from, or_cases, or_right, false_from_ne_true}
-use Rattle.std.proofs.lemmas.Str.{IsUtf8-from_ascii}
-use Rattle.std.proofs.lemmas.Str.Parse.{IsNumeralModel, numerals_by_value, tells_all_ascii_digits, parse_digits}
-use Rattle.std.proofs.lemmas.Fmt.{decimal_digit, first_decimal, decimal_is_IsNumeral, decimal-digits_value, IsAscii-from_digits}
+use Rattle.std.proofs.lemmas.Bool.Decides.{nat_tests}
+use Rattle.std.proofs.lemmas.Str.Parse.{IsNumeralModel, numerals_by_value, tells_all_ascii_digits}
+use Rattle.std.proofs.lemmas.Fmt.{decimal_digit, first_decimal, decimal_is_IsNumeral, decimal-digits_value}
 use Rattle.replay_model.specs.Script.{IsNumber}
 use Rattle.replay_model.specs.TextFault.{Checks, first_of, begins_plainly, is_numeral, value, number_fault}
 use Rattle.replay_model.specs.declared.text_fault.TextFault.{TextFault}
@@ -20,16 +19,37 @@ some_byte : (w : List ℕ) → 48 < get_or w 0 0 → 0 < length w
 some_byte [] h = absurd (omega arith)
 some_byte (b ∷ bs) h = omega arith
 
-of_result : {E : Type 0} (r : Result ℕ E) (size v : ℕ) → 0 < size → OkIff r ((0 < size) × (v < 2 ^ 32)) v → MatchOption (result_ok r) (2 ^ 32 ≤ v) (λ n. n ≡ v)
-of_result (Ok x) size v some h = h.1
-of_result (Err e) size v some h = let k : v < 2 ^ 32 → ⊥ = λ l. h (some, l) in omega (arith, k)
-
 own : IsNumeralModel (λ ds. all_ascii_digits ds ≡ true) (digits_value 10)
 own = numerals_by_value _ tells_all_ascii_digits
 
 same_digits : (w : List ℕ) → list_all is_ascii_digit w ≡ all_ascii_digits w
 same_digits [] = refl
 same_digits (b ∷ bs) = ap (λ t. is_ascii_digit b && t) (same_digits bs)
+
+-- what a digit adds to the number that the digits before it write
+digit_is : (c : ℕ) → digit_value c < 10 → (digit_value c ≡ c - 48) × (48 ≤ c)
+digit_is c h = grind (arith, nat_tests)
+
+next_digit : (ds : List ℕ) (i n : ℕ) → AllDigits 10 ds → i < length ds
+    → digits_value_after 10 n (drop i ds) ≡ digits_value_after 10 (n * 10 + (get_or ds i 0 - 48)) (drop (suc i) ds)
+next_digit [] i n a h = absurd (omega arith)
+next_digit (c ∷ cs) zero n a h = ap (λ d. digits_value_after 10 (n * 10 + d) cs) (digit_is c a.0).0
+next_digit (c ∷ cs) (suc i) n a h = next_digit cs i n a.1 (omega arith)
+
+value-ge : (n : ℕ) (ds : List ℕ) → n ≤ digits_value_after 10 n ds
+value-ge n [] = omega arith
+value-ge n (c ∷ cs) = omega (arith, value-ge (n * 10 + digit_value c) cs)
+
+digit-ge : (ds : List ℕ) (i : ℕ) → AllDigits 10 ds → i < length ds → 48 ≤ get_or ds i 0
+digit-ge [] i a h = absurd (omega arith)
+digit-ge (c ∷ cs) zero a h = (digit_is c a.0).1
+digit-ge (c ∷ cs) (suc i) a h = digit-ge cs i a.1 (omega arith)
+
+pub at_end : (ds : List ℕ) (i n : ℕ) → length ds ≤ i → digits_value_after 10 n (drop i ds) ≡ n
+at_end [] zero n h = refl
+at_end [] (suc i) n h = refl
+at_end (c ∷ cs) zero n h = absurd (omega arith)
+at_end (c ∷ cs) (suc i) n h = at_end cs i n (omega arith)
 
 module _ (w : List ℕ) (numeral : is_numeral w ≡ true) where
   digits : all_ascii_digits w ≡ true
@@ -40,9 +60,6 @@ module _ (w : List ℕ) (numeral : is_numeral w ≡ true) where
 
   all_digits : AllDigits 10 w
   all_digits = own.to w digits
-
-  pub is_text : IsUtf8 w
-  is_text = IsUtf8-from_ascii w (IsAscii-from_digits w all_digits)
 
   some_digits : 0 < length w
   some_digits = elim (or_cases (length w == 1) (nat_lt 48 (get_or w 0 0)) plain) [
@@ -56,9 +73,17 @@ module _ (w : List ℕ) (numeral : is_numeral w ≡ true) where
     | inr e ↦ let above = ltb-true _ _ e in absurd (omega arith)
   ]
 
-  -- `parse` refuses only those of too large a number
-  pub parsed : {E : Type 0} (r : Result ℕ E) → ParsesUnsigned 32 10 w r → MatchOption (result_ok r) (2 ^ 32 ≤ value w) (λ n. n ≡ value w)
-  parsed r h = of_result r _ _ some_digits (parse_digits own 32 w r h digits)
+  -- the digits from place i on, read behind the number of those before it
+  pub goes_on : (i n : ℕ) → i < length w
+      → digits_value_after 10 n (drop i w) ≡ digits_value_after 10 (n * 10 + (get_or w i 0 - 48)) (drop (i + 1) w)
+  goes_on i n h = let one : i + 1 ≡ suc i = omega arith in rw one (next_digit w i n all_digits h)
+
+  pub is_digit_at : (i : ℕ) → i < length w → 48 ≤ get_or w i 0
+  is_digit_at i h = digit-ge w i all_digits h
+
+  -- the number grows with each digit
+  pub grows : (i n : ℕ) → i < length w → digits_value_after 10 n (drop i w) ≡ value w → n * 10 + (get_or w i 0 - 48) ≤ value w
+  grows i n h e = omega (arith, e, goes_on i n h, value-ge (n * 10 + (get_or w i 0 - 48)) (drop (i + 1) w))
 
   pub is_decimal : value w < 2 ^ 64 → w ≡ decimal (value w)
   is_decimal small = sym (decimal-digits_value own w digits some_digits zero_alone small)

@@ -31,8 +31,13 @@ fn value_of(digits: &[u8]) -> Option<u32>
     requires { is_numeral digits.now ≡ true }
     ensures { MatchOption result (2 ^ 32 ≤ value digits.now) (λ n. n ≡ value digits.now) }
 {
-    let text = str::from_utf8(digits).ok()?;
-    text.parse().ok()
+    let mut value: u32 = 0;
+    for digit in digits {
+        value = value
+            .checked_mul(10)?
+            .checked_add(u32::from(*digit - b'0'))?;
+    }
+    Some(value)
 }
 
 /// The same, for a range within 16 bits.

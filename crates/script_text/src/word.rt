@@ -24,7 +24,7 @@ pub fn has_bytes_of_line(line: &[u8]) -> bool
 fn is_byte_of_line(byte: u8) -> bool
     ensures { result ≡ is_byte_of_line byte }
 {
-    is_blank(byte) || matches!(byte, b'!'..=b'~')
+    matches!(byte, b'\t' | b' '..=b'~')
 }
 
 /// The first word of a line, and the rest of the line behind it.

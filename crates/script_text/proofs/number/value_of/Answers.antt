@@ -1,24 +1,36 @@
--- Digits are text, which `parse` refuses only where its number has more bits.
-use Rattle.std.proofs.Common.{◌≡◌, Result, Ok, Err, Some, None, MatchResult}
-use Rattle.std.specs.Result.{result_ok}
-use Rattle.std.specs.Str.Parse.{ParsesUnsigned}
-use Rattle.std.proofs.lemmas.Result.{MatchResult-at_ok}
-use Rattle.script_text.proofs.Numbers.{is_text, parsed}
+-- The number so far is that of a front of the digits, and grows with each; so where it has no room in 32 bits the whole has none.
+use Rattle.std.proofs.Common.{◌≡◌, ◌∙◌, ◌+◌, ◌*◌, ◌-◌, get_or, refl, sym, ap, arith}
+use Rattle.std.specs.Str.Parse.{digits_value_after}
+use Rattle.std.specs.Prelude.{drop}
+use Rattle.script_text.proofs.Numbers.{at_end, goes_on, grows}
 use Rattle.script_text.proofs.number.value_of.Goals as goal
 
-ok_is : {T E : Type 0} (r : Result T E) (x : T) → Some x ≡ result_ok r → r ≡ Ok x
-ok_is (Ok y) x e = cc
-ok_is (Err y) x e = cc
+pub loop-digit-init : goal.loop-digit-init
+loop-digit-init c = refl
 
-refused_text : {T E : Type 0} (r : Result T E) (P : T → Type 0) (U : Type 0) (V : E → Type 0) → None ≡ result_ok r → MatchResult r P (λ e. (¬ U) × V e) → U → ⊥
-refused_text (Ok x) P U V e m u = cc
-refused_text (Err y) P U V e m u = m.0 u
+pub returns-in_err-checked_mul : goal.returns-in_err-checked_mul
+returns-in_err-checked_mul c =
+    let larger = grows c.args.digits.now c.requires c.loop-digit.digit-index c.loop-digit.value c.loop-digit-test.true c.loop-digit.invariant in
+    let over = c.in_err-checked_mul.ensures in
+    rw c.from_residual.ensures (omega (arith, larger, over))
 
-pub returns-in_err-text : goal.returns-in_err-text
-returns-in_err-text c = absurd (refused_text c.from_utf8.result _ _ _ c.in_err-text.ensures.value c.from_utf8.ensures.cases (is_text c.args.digits.now c.requires))
+pub returns-in_err-value : goal.returns-in_err-value
+returns-in_err-value c =
+    let larger = grows c.args.digits.now c.requires c.loop-digit.digit-index c.loop-digit.value c.loop-digit-test.true c.loop-digit.invariant in
+    let product = c.in_ok-checked_mul.ensures.1 in
+    let digit = c.from.ensures in
+    let over = c.in_err-value.ensures in
+    rw c.from_residual-in_err-value.ensures (omega (arith, larger, product, digit, over))
+
+pub loop-digit-preserved : goal.loop-digit-preserved
+loop-digit-preserved c =
+    let i = c.loop-digit.digit-index in
+    let next = goes_on c.args.digits.now c.requires i c.loop-digit.value c.loop-digit-test.true in
+    let product = c.in_ok-checked_mul.ensures.1 in
+    let digit = c.from.ensures in
+    let sum = c.in_ok-value.ensures.1 in
+    let value : c.in_ok-value.value ≡ c.loop-digit.value * 10 + (get_or c.args.digits.now i 0 - 48) = omega (arith, product, digit, sum) in
+    ap (λ n. digits_value_after 10 n (drop (i + 1) c.args.digits.now)) value ∙ sym next ∙ c.loop-digit.invariant
 
 pub returns : goal.returns
-returns c =
-    let same = MatchResult-at_ok _ _ _ (ok_is c.from_utf8.result c.in_ok-text.text c.in_ok-text.ensures.value) c.from_utf8.ensures.cases in
-    let reads : ParsesUnsigned 32 10 c.args.digits.now c.parse.result = rw same.0 at c.parse.ensures.value.0 in
-    rw c.ok-2.ensures.value (parsed c.args.digits.now c.requires c.parse.result reads)
+returns c = sym (at_end c.args.digits.now c.loop-digit.digit-index c.loop-digit.value c.loop-digit-test.false) ∙ c.loop-digit.invariant

@@ -1,0 +1,12 @@
+pub mod Counts
+pub mod Slots
+pub mod Brings
+pub mod Cells
+pub mod Packs
+pub mod Turns
+pub mod Joins
+pub mod Flows
+pub mod Swaps
+pub mod Openings
+pub mod Closings
+pub mod Held

@@ -1,0 +1,11 @@
+use Rattle.std.proofs.Common.{arith, ◌∙◌, ℕ, ◌++◌, ◌∷◌, []}
+use Rattle.std.specs.Slots.{slots_items}
+use Rattle.packet_board.proofs.Closings.{more_cells}
+use Rattle.packet_board.proofs.closing.cells_left.Goals as goal
+
+pub loop-cell-preserved : goal.loop-cell-preserved
+loop-cell-preserved c = let ns = slots_items c.args.left.now.words in let i : ℕ = c.loop-cell.cell in let inv = c.loop-cell.invariant in let push = c.push_reserved.ensures in record {
+  read = push.items ∙ ((λ j. inv.read j ++ c.unpack.ensures.value j ∷ []) ∙ more_cells ns i c.word.result c.word.ensures);
+  len = let l = inv.len in let p = push.len in omega (arith, l, p);
+  room = push.capacity ∙ inv.room;
+}
