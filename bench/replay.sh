@@ -65,8 +65,8 @@ instructions() {
 
 if command -v valgrind > "$work/valgrind"; then
     few=$(instructions 1000)
-    many=$(instructions 3000)
-    echo "$(((many - few) / (7 * 2000))) instructions a line"
+    many=$(instructions 2800)
+    echo "$(((many - few) / (7 * 1800))) instructions a line"
 else
     echo "valgrind isn't found: instructions aren't counted"
 fi
