@@ -7,7 +7,7 @@ use Rattle.rpc_header.specs.declared.Kind.{Kind}
 use Rattle.rpc_header.specs.declared.Kind.TheVariants as kind
 use Rattle.fragments.specs.Pieces.{last_piece}
 use Rattle.call_rules.specs.declared.caller.TheConstants.{QUIET_TICKS, TRIES}
-use Rattle.call_rules.specs.Packet.{Call, Fields, is_same_call}
+use Rattle.call_rules.specs.Packet.{Call, Fields, no_export, is_same_call}
 
 pub data State : Type 0 where
   Idle : State
@@ -48,9 +48,6 @@ pub record Step : Type 0 where
   pub caller : Caller
   pub act : Act
 
-abbrev pub no_export : Export
-no_export = record { identifier = 0; index = 0 }
-
 -- a caller that has made no call
 abbrev pub idle : Activity → ℕ → Caller
 idle activity hint =
@@ -69,6 +66,15 @@ idle activity hint =
 abbrev pub is_idle : State → Bool
 is_idle Idle = true
 is_idle _ = false
+
+abbrev pub is_binding : State → Bool
+is_binding Binding = true
+is_binding _ = false
+
+-- a packet that isn't counted
+abbrev pub is_unused : Act → Bool
+is_unused Unused = true
+is_unused _ = false
 
 -- the call that the caller has open
 abbrev pub current_call : Caller → Call

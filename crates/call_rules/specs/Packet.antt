@@ -31,6 +31,9 @@ pub record Packet : Type 0 where
   pub header : Fields
   pub payload : List ℕ
 
+abbrev pub no_export : Export
+no_export = record { identifier = 0; index = 0 }
+
 abbrev pub call_of : CallId → Call
 call_of id = record { activity = id.activity; number = id.number.value }
 

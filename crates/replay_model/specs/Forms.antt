@@ -1,7 +1,7 @@
 -- The forms of a script's lines, as one table: a row for each form, with what each word of its lines must be.
 use Rattle.std.specs.Prelude.{ℕ, List, [], ◌∷◌, ◌++◌, Option, Some, None, codes}
 use Rattle.std.specs.List.{slice_index_or}
-use Rattle.replay_model.specs.declared.limits.TheConstants.{SERVER_MACHINE, FIRST_CLIENT, LAST_CLIENT, LAST_PROCESS, LAST_WORKER, LAST_BIT, LARGEST_NUMBER}
+use Rattle.replay_model.specs.declared.limits.TheConstants.{SERVER_MACHINE, FIRST_CLIENT, LAST_CLIENT, LAST_PROCESS, LAST_WORKER, LAST_BIT, LARGEST_COUNT, LARGEST_NUMBER}
 use Rattle.replay_model.specs.declared.event.CallWord.TheVariants as word
 use Rattle.replay_model.specs.declared.event.Event.{Event}
 use Rattle.replay_model.specs.declared.event.Event.TheVariants as event
@@ -55,6 +55,9 @@ packet = Number 1 LARGEST_NUMBER
 abbrev pub bit : Place
 bit = Number 0 LAST_BIT
 
+abbrev pub count : Place
+count = Number 1 LARGEST_COUNT
+
 abbrev pub time : Place
 time = Number 1 LARGEST_NUMBER
 
@@ -70,7 +73,7 @@ call_forms =
     built (call (codes "null") []) (λ v. event.Call (number_at 1 v) (number_at 2 v) word.Null)
     ∷ built (call (codes "add") (any_number ∷ any_number ∷ []))
     (λ v. event.Call (number_at 1 v) (number_at 2 v) (word.Add (number_at 4 v) (number_at 5 v)))
-    ∷ not_yet (call (codes "bump") (any_number ∷ []))
+    ∷ built (call (codes "bump") (any_number ∷ [])) (λ v. event.Call (number_at 1 v) (number_at 2 v) (word.Bump (number_at 4 v)))
     ∷ not_yet (call (codes "maxarg") (Number 0 92156 ∷ []))
     ∷ not_yet (call (codes "maxresult") (any_number ∷ []))
     ∷ not_yet (call (codes "bigarg") (Number 0 368636 ∷ []))
@@ -82,8 +85,9 @@ other_forms =
     not_yet (The (codes "pool") ∷ Number 2 3000 ∷ Number 0 1000 ∷ [])
     ∷ not_yet (The (codes "second") ∷ time ∷ [])
     ∷ not_yet (The (codes "bind") ∷ client ∷ process ∷ Name ∷ [])
-    ∷ not_yet (The (codes "tick") ∷ client ∷ process ∷ [])
-    ∷ not_yet (The (codes "tick") ∷ client ∷ process ∷ Number 1 1000 ∷ [])
+    ∷ built (The (codes "tick") ∷ client ∷ process ∷ []) (λ v. event.Tick (number_at 1 v) (number_at 2 v) 1)
+    ∷ built (The (codes "tick") ∷ client ∷ process ∷ count ∷ [])
+    (λ v. event.Tick (number_at 1 v) (number_at 2 v) (number_at 3 v))
     ∷ built (The (codes "deliver") ∷ packet ∷ []) (λ v. event.Deliver (number_at 1 v))
     ∷ built (The (codes "damage") ∷ packet ∷ bit ∷ []) (λ v. event.Damage (number_at 1 v) (number_at 2 v))
     ∷ built (The (codes "work") ∷ worker ∷ []) (λ v. event.Work (number_at 1 v))

@@ -5,6 +5,7 @@ pub mod FaultNumber
 pub mod Forms
 pub mod Lines
 pub mod Once
+pub mod Process
 pub mod Record
 pub mod Script
 pub mod Service

@@ -8,11 +8,13 @@ use Rattle.lane_checksum.specs.declared.TheConstants.{HEAD_LEN}
 use Rattle.udp_frames.specs.declared.fault.FrameFault.{FrameFault}
 use Rattle.udp_frames.specs.declared.fault.FrameFault.TheVariants as frame_fault
 use Rattle.rpc_header.specs.declared.Activity.{Activity}
+use Rattle.rpc_header.specs.declared.Export.{Export}
 use Rattle.rpc_header.specs.declared.HeaderFault.{HeaderFault}
 use Rattle.rpc_header.specs.declared.HeaderFault.TheVariants as header_fault
 use Rattle.rpc_header.specs.declared.Kind.{Kind}
 use Rattle.rpc_header.specs.declared.Kind.TheVariants as kind
 use Rattle.call_rules.specs.Packet.{Call, Fields}
+use Rattle.call_rules.specs.declared.caller.TheConstants.{TRIES}
 use Rattle.call_rules.specs.declared.worker.Did.{Did}
 use Rattle.call_rules.specs.declared.worker.Did.TheVariants as did
 use Rattle.call_rules.specs.declared.worker.Unfit.{Unfit}
@@ -20,7 +22,7 @@ use Rattle.call_rules.specs.declared.worker.Unfit.TheVariants as unfit
 use Rattle.replay_model.specs.declared.discard.Discard.{Discard}
 use Rattle.replay_model.specs.declared.discard.Discard.TheVariants as why
 use Rattle.replay_model.specs.Digests.{RunDigest, run_digest}
-use Rattle.replay_model.specs.Record.{Act, Counts}
+use Rattle.replay_model.specs.Record.{Act, Cause, Unanswered, RefusedFor, Counts}
 use Rattle.replay_model.specs.Record as act
 
 abbrev pub blank : List ℕ
@@ -85,7 +87,8 @@ packet_line number from to h len =
 abbrev pub procedure_text : ℕ → List ℕ
 procedure_text zero = codes "null"
 procedure_text (suc zero) = codes "add"
-procedure_text (suc (suc n)) = decimal (suc (suc n))
+procedure_text (suc (suc zero)) = codes "bump"
+procedure_text (suc (suc (suc n))) = decimal (suc (suc (suc n)))
 
 -- a signal by its number behind a mark
 abbrev pub reply_text : Bool → Digest → List ℕ
@@ -187,6 +190,16 @@ abbrev pub return_line : Call → Bool → Digest → List ℕ
 return_line call false reply = codes "returned " ++ call_text call ++ blank ++ bytes_text reply ++ newline
 return_line call true reply = codes "signalled " ++ call_text call ++ blank ++ decimal (exception_number reply) ++ newline
 
+-- a call that failed: no transmission of so many was answered, or the server refused it for a reason
+abbrev pub failure_line : Call → Cause → List ℕ
+failure_line call Unanswered = codes "failed " ++ call_text call ++ blank ++ decimal TRIES ++ newline
+failure_line call (RefusedFor reason) = codes "refused " ++ call_text call ++ blank ++ decimal reason ++ newline
+
+-- a bind that has found an export
+abbrev pub bound_line : Call → Export → List ℕ
+bound_line call export =
+    codes "bound " ++ call_text call ++ blank ++ decimal export.index ++ blank ++ decimal export.identifier ++ newline
+
 -- a frame by its length and its bytes
 abbrev pub frame_line : ℕ → List ℕ → List ℕ
 frame_line k bytes = codes "frame " ++ decimal k ++ blank ++ decimal (length bytes) ++ blank ++ hex bytes ++ newline
@@ -196,14 +209,22 @@ abbrev pub lines_of_act : Act → List ℕ
 lines_of_act act.Impossible = codes "impossible" ++ newline
 lines_of_act (act.Starts s) = codes "start " ++ call_text s.call ++ newline
 lines_of_act (act.TooFast a number second) = codes "nostart TooFast " ++ decimal number ++ blank ++ decimal second ++ newline
-lines_of_act (act.Sends k p) = packet_line k p.from p.to p.header (length p.payload)
+lines_of_act (act.CallerSends k p) = packet_line k p.from p.to p.header (length p.payload)
+lines_of_act (act.ServerSends k p) = packet_line k p.from p.to p.header (length p.payload)
 lines_of_act (act.Readies k) = codes "ready " ++ decimal k ++ newline
 lines_of_act (act.Hears a k) = []
+lines_of_act (act.TellsWaiting call) = codes "waiting " ++ call_text call ++ newline
 lines_of_act (act.Returns r) = return_line r.call r.signal (digest r.reply)
+lines_of_act (act.Fails call cause) = failure_line call cause
+lines_of_act (act.BindFails call) = codes "bindfailed " ++ call_text call ++ blank ++ decimal TRIES ++ newline
+lines_of_act (act.BindsTo call export) = bound_line call export
+lines_of_act (act.Unbinds call) = codes "unbound " ++ call_text call ++ newline
+lines_of_act act.Quiet = codes "quiet" ++ newline
 lines_of_act (act.Discards reason) = codes "drop " ++ discard_text reason ++ newline
 lines_of_act (act.Idles number) = codes "worker " ++ decimal number ++ codes " idle" ++ newline
 lines_of_act (act.Works number n step) = codes "worker " ++ decimal number ++ blank ++ did_text n step ++ newline
 lines_of_act (act.HasRun run) = []
+lines_of_act (act.Rejects k rows) = []
 lines_of_act (act.Shows k bytes) = frame_line k bytes
 lines_of_act (act.ListsRuns runs) = journal_lines (map run_digest runs)
 lines_of_act (act.Ends counts) = end_line counts

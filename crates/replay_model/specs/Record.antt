@@ -1,13 +1,13 @@
 -- What happens in an event, and the records that are kept of it. They belong to the world and outlive
 -- restarts of its machines.
-use Rattle.std.specs.Prelude.{ℕ, List, [], ◌∷◌, ◌++◌, length, filter, Option, Bool, true, false, not, ◌==◌, if◌then◌else◌}
+use Rattle.std.specs.Prelude.{ℕ, List, [], ◌∷◌, ◌++◌, length, filter, Option, Bool, true, false, not}
 use Rattle.rpc_header.specs.declared.Activity.{Activity}
 use Rattle.rpc_header.specs.declared.Export.{Export}
+use Rattle.binder.specs.declared.row.ExportRow.{ExportRow}
 use Rattle.call_rules.specs.Packet.{Call, Packet}
 use Rattle.call_rules.specs.Worker.{Run}
 use Rattle.call_rules.specs.declared.worker.Did.{Did}
 use Rattle.replay_model.specs.declared.discard.Discard.{Discard}
-use Rattle.replay_model.specs.declared.limits.TheConstants.{SERVER_MACHINE}
 
 -- an accepted start of a call
 pub record Start : Type 0 where
@@ -26,10 +26,6 @@ pub data Cause : Type 0 where
   Unanswered : Cause
   RefusedFor : (reason : ℕ) → Cause
 
-pub record Failure : Type 0 where
-  pub call : Call
-  pub cause : Cause
-
 -- what an activity saw: the begin of a call or a bind, a packet of its own by its number, and a counted
 -- packet that was delivered to it
 pub data Mark : Type 0 where
@@ -41,18 +37,18 @@ pub record Marked : Type 0 where
   pub activity : Activity
   pub mark : Mark
 
--- an interface that a server exports
-pub record ExportRow : Type 0 where
-  pub kind : List ℕ
-  pub instance : List ℕ
-  pub identifier : ℕ
-  pub procedures : ℕ
+-- a call that failed, with the marks of that moment
+pub record Failure : Type 0 where
+  pub call : Call
+  pub cause : Cause
+  pub marks : List Marked
 
 -- a Reject that was sent, by its number, with the server's export rows at that step
 pub record Rejection : Type 0 where
   pub packet : ℕ
   pub rows : List (Option ExportRow)
 
+-- the newest mark is the first
 pub record Records : Type 0 where
   pub started : List Start
   pub journal : List Run
@@ -92,34 +88,47 @@ pub data Act : Type 0 where
   Starts : Start → Act
   -- a refused start, with the number that it would have had, and the second
   TooFast : (activity : Activity) → (number : ℕ) → (second : ℕ) → Act
-  -- a packet is sent, and has this number
-  Sends : (number : ℕ) → Packet → Act
+  -- a client, or the server, sends a packet, which has this number
+  CallerSends : (number : ℕ) → Packet → Act
+  ServerSends : (number : ℕ) → Packet → Act
   -- a packet comes to the server's list of ready packets
   Readies : (number : ℕ) → Act
   -- a counted packet comes to an activity
   Hears : Activity → (number : ℕ) → Act
+  -- the server has the call, and works on it
+  TellsWaiting : Call → Act
   Returns : Return → Act
+  Fails : Call → Cause → Act
+  BindFails : Call → Act
+  BindsTo : Call → Export → Act
+  Unbinds : Call → Act
+  -- ticks in which nothing happens
+  Quiet : Act
   Discards : Discard → Act
   -- a worker finds nothing to do, or does one step for a call of this number
   Idles : (worker : ℕ) → Act
   Works : (worker : ℕ) → (number : ℕ) → Did → Act
   -- a body has run
   HasRun : Run → Act
+  -- a packet that was sent is a Reject; rows are the export rows at that step
+  Rejects : (packet : ℕ) → (rows : List (Option ExportRow)) → Act
   -- the frame of a packet is printed
   Shows : (number : ℕ) → (bytes : List ℕ) → Act
   ListsRuns : List Run → Act
   Ends : Counts → Act
 
 abbrev pub with_mark : Records → Activity → Mark → Records
-with_mark r activity mark = record r { marks = r.marks ++ record { activity = activity; mark = mark } ∷ [] }
+with_mark r activity mark = record r { marks = record { activity = activity; mark = mark } ∷ r.marks }
 
 -- what is kept of one thing that happens
 abbrev pub recorded : Records → Act → Records
 recorded r (Starts s) = record (with_mark r s.call.activity Begin) { started = r.started ++ s ∷ [] }
-recorded r (Sends k p) = if p.from == SERVER_MACHINE then r else with_mark r p.header.call.activity (SentPacket k)
+recorded r (CallerSends k p) = with_mark r p.header.call.activity (SentPacket k)
 recorded r (Hears activity k) = with_mark r activity (Heard k)
-recorded r (HasRun run) = record r { journal = r.journal ++ run ∷ [] }
 recorded r (Returns x) = record r { returns = r.returns ++ x ∷ [] }
+recorded r (Fails call cause) = record r { failures = r.failures ++ record { call = call; cause = cause; marks = r.marks } ∷ [] }
+recorded r (HasRun run) = record r { journal = r.journal ++ run ∷ [] }
+recorded r (Rejects k rows) = record r { rejects = r.rejects ++ record { packet = k; rows = rows } ∷ [] }
 recorded r _ = r
 
 abbrev pub recorded_all : Records → List Act → Records

@@ -1,11 +1,11 @@
 -- The grammar of scripts.
-use Rattle.std.specs.Prelude.{◌≡◌, ℕ, ◌≤◌, List, [], ◌∷◌, map, filter, length, Option, Some, None, Bool, true, false, not, ◌==◌, ◌||◌, ◌&&◌, nat_eq, nat_le, if◌then◌else◌, IsTrue, MatchBool}
-use Rattle.std.specs.List.{slice_split, filter_map, list_all, AllZip, IsDistinct, Contains}
+use Rattle.std.specs.Prelude.{◌≡◌, ℕ, ◌≤◌, List, [], ◌∷◌, map, filter, length, Option, Some, None, Bool, true, false, not, ◌==◌, ◌||◌, ◌&&◌, nat_le, if◌then◌else◌, IsTrue, MatchBool}
+use Rattle.std.specs.List.{slice_split, list_all, AllZip, Contains}
 use Rattle.std.specs.Char.{is_ascii_digit}
 use Rattle.std.specs.Fmt.{decimal}
 use Rattle.binder.specs.Names.{is_name}
 use Rattle.replay_model.specs.Forms.{Place, The, Number, Name, Value, Numeral, Text, Form, forms}
-use Rattle.replay_model.specs.declared.limits.TheConstants.{FIRST_CLIENT, LAST_CLIENT, LAST_PROCESS, LAST_WORKER, LAST_BIT, LARGEST_NUMBER, SMALL_BUFFERS, LONG_BUFFERS}
+use Rattle.replay_model.specs.declared.limits.TheConstants.{FIRST_CLIENT, LAST_CLIENT, LAST_PROCESS, LAST_WORKER, LAST_BIT, LARGEST_COUNT, LARGEST_NUMBER, SMALL_BUFFERS, LONG_BUFFERS}
 use Rattle.replay_model.specs.declared.event.CallWord.{CallWord}
 use Rattle.replay_model.specs.declared.event.CallWord.TheVariants as word
 use Rattle.replay_model.specs.declared.event.Event.{Event}
@@ -89,10 +89,13 @@ pub record Spells (words : List (List ℕ)) (e : Event) : Type 0 where
 abbrev pub IsAskable : CallWord → Type 0
 IsAskable word.Null = Unit {0}
 IsAskable (word.Add a b) = (a ≤ largest_number) × (b ≤ largest_number)
+IsAskable (word.Bump n) = n ≤ largest_number
 
 -- the numbers of an event are those that a line can have
 abbrev pub InRange : Event → Type 0
 InRange (event.Call machine process asked) = (FIRST_CLIENT ≤ machine) × (machine ≤ LAST_CLIENT) × (1 ≤ process) × (process ≤ LAST_PROCESS) × IsAskable asked
+InRange (event.Tick machine process count) =
+    (FIRST_CLIENT ≤ machine) × (machine ≤ LAST_CLIENT) × (1 ≤ process) × (process ≤ LAST_PROCESS) × (1 ≤ count) × (count ≤ LARGEST_COUNT)
 InRange (event.Deliver packet) = (1 ≤ packet) × (packet ≤ largest_number)
 InRange (event.Damage packet bit) = (1 ≤ packet) × (packet ≤ largest_number) × (bit ≤ LAST_BIT)
 InRange (event.Show packet) = (1 ≤ packet) × (packet ≤ largest_number)
@@ -109,17 +112,10 @@ abbrev pub EndsOnce : List Event → Type 0
 EndsOnce [] = ⊥
 EndsOnce (e ∷ es) = MatchBool (is_end e) (es ≡ []) (EndsOnce es)
 
-abbrev pub delivered_packet : Event → Option ℕ
-delivered_packet (event.Deliver k) = Some k
-delivered_packet (event.Damage k bit) = Some k
-delivered_packet _ = None
-
 -- the text is a script
 pub record IsScript (text : List ℕ) (s : Script) : Type 0 where
   pub spelled : AllZip Spells (lines_of_words text) s.events
   pub ended : EndsOnce s.events
-  -- no two lines deliver the same packet, damaged or not
-  pub delivered_once : IsDistinct nat_eq (filter_map delivered_packet s.events)
   -- the numbers of buffers, where no line gives others
   pub small_is : s.small ≡ SMALL_BUFFERS
   pub long_is : s.long ≡ LONG_BUFFERS

@@ -15,10 +15,12 @@ pub record Served : Type 0 where
 abbrev pub procedure_of : CallWord → ℕ
 procedure_of word.Null = 0
 procedure_of (word.Add a b) = 1
+procedure_of (word.Bump n) = 2
 
 abbrev pub arguments_of : CallWord → List ℕ
 arguments_of word.Null = []
 arguments_of (word.Add a b) = big_bytes 4 a ++ big_bytes 4 b
+arguments_of (word.Bump n) = big_bytes 4 n
 
 abbrev pub replies : ℕ → List ℕ → Served
 replies total reply = record { answer = record { signal = false; reply = reply }; total = total }
@@ -31,9 +33,14 @@ raises total exception = record { answer = record { signal = true; reply = 0 ∷
 abbrev pub adds : (total a b : ℕ) → Served
 adds total a b = if nat_le (a + b) largest_number then replies total (big_bytes 4 (a + b)) else raises total 1
 
+-- a sum with the total, which it becomes, or the exception of one that is too large
+abbrev pub bumps : (total n : ℕ) → Served
+bumps total n = if nat_le (total + n) largest_number then replies (total + n) (big_bytes 4 (total + n)) else raises total 1
+
 -- the answer to a procedure and its arguments, by the total; arguments that can't be read raise 0
 abbrev pub served : (total procedure : ℕ) → List ℕ → Served
 served total zero bytes = if length bytes == 0 then replies total [] else raises total 0
 served total (suc zero) bytes =
     if length bytes == 8 then adds total (big_number 4 bytes) (big_number 4 (drop 4 bytes)) else raises total 0
-served total (suc (suc other)) bytes = raises total 0
+served total (suc (suc zero)) bytes = if length bytes == 4 then bumps total (big_number 4 bytes) else raises total 0
+served total (suc (suc (suc other))) bytes = raises total 0

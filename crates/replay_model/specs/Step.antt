@@ -1,14 +1,19 @@
 -- The step of each event: the world after it, and what happens in it. An impossible event leaves the world
 -- as it is.
-use Rattle.std.specs.Prelude.{ℕ, ◌+◌, ◌*◌, List, [], ◌∷◌, ◌++◌, length, Option, Some, None, unwrap_or, ◌==◌, nat_lt, nat_le, if◌then◌else◌}
+use Rattle.std.specs.Prelude.{ℕ, zero, suc, ◌+◌, ◌*◌, List, [], ◌∷◌, ◌++◌, length, Option, Some, None, unwrap_or, option_and_then, Bool, ◌==◌, nat_lt, nat_le, if◌then◌else◌}
+use Rattle.std.specs.Option.{option_map}
 use Rattle.udp_frames.specs.Damage.{flipped}
-use Rattle.call_rules.specs.Packet.{Packet}
+use Rattle.rpc_header.specs.declared.Activity.{Activity}
+use Rattle.binder.specs.declared.row.ExportRow.{ExportRow}
+use Rattle.binder.specs.declared.row.Verdict.{Verdict}
+use Rattle.binder.specs.declared.row.Verdict.TheVariants as verdict
+use Rattle.binder.specs.Exports.{accepts, look_up}
+use Rattle.binder.specs.Interfaces.{name_in}
+use Rattle.call_rules.specs.Packet.{Call, Packet}
 use Rattle.call_rules.specs.Entry.{Entry, Empty}
 use Rattle.call_rules.specs.Caller as caller
-use Rattle.call_rules.specs.Worker.{Worker, Resting, Claimed, Admitted, Ran, on_idle, on_claimed, on_admitted, on_ran, run_of, drops}
+use Rattle.call_rules.specs.Worker.{Worker, Resting, Claimed, Took, Admitted, Ran, Fetched, Asked, Adds, Nothing, ARun, APacket, ARejection, on_idle, on_claimed, on_took, on_admitted, on_ran, on_fetched}
 use Rattle.call_rules.specs.Worker as worker
-use Rattle.call_rules.specs.declared.worker.Did.TheVariants as did
-use Rattle.call_rules.specs.declared.worker.Unfit.TheVariants as unfit
 use Rattle.replay_model.specs.declared.event.CallWord.{CallWord}
 use Rattle.replay_model.specs.declared.event.Event.{Event}
 use Rattle.replay_model.specs.declared.event.Event.TheVariants as event
@@ -16,20 +21,34 @@ use Rattle.replay_model.specs.declared.limits.TheConstants.{SERVER_MACHINE, FIRS
 use Rattle.replay_model.specs.Service.{Served, served, procedure_of, arguments_of}
 use Rattle.replay_model.specs.declared.discard.Discard.{Discard}
 use Rattle.replay_model.specs.declared.discard.Discard.TheVariants as why
-use Rattle.replay_model.specs.Record.{Act, Impossible, Starts, TooFast, Sends, Readies, Hears, Returns, Discards, Idles, Works, HasRun, Shows, ListsRuns, Ends, counts_of, recorded_all}
+use Rattle.replay_model.specs.Process.{Line, LineStep, Said, SaysNothing, Sends, Waits, Returned, Fails, BindFails, BoundTo, NotBound, started, heard, ticked}
+use Rattle.replay_model.specs.Record.{Act, Impossible, Starts, TooFast, CallerSends, ServerSends, Readies, Hears, TellsWaiting, Returns, Quiet, Discards, Idles, Works, HasRun, Rejects, Shows, ListsRuns, Ends, counts_of, recorded_all}
+use Rattle.replay_model.specs.Record as act
 use Rattle.replay_model.specs.Arrival.{Arrival, Comes, Dropped, arrives, frame_of}
-use Rattle.replay_model.specs.World.{World, Client, Line, numbered, with_numbered, packet_at, entry_at, with_entry, number_limit}
+use Rattle.replay_model.specs.World.{World, Client, numbered, with_numbered, packet_at, entry_at, with_entry, number_limit, has_buffer}
 
 -- what an event does: the world after it but for its records, and what happens
 pub record Outcome : Type 0 where
   pub world : World
   pub acts : List Act
 
+-- the world after an outcome, with what happened recorded
+abbrev pub settled : World → Outcome → World
+settled w o = record o.world { records = recorded_all w.records o.acts }
+
+-- the same with one thing that happens before
+abbrev pub behind : Act → Outcome → Outcome
+behind first o = record { world = o.world; acts = first ∷ o.acts }
+
 abbrev pub impossible : World → Outcome
 impossible w = record { world = w; acts = Impossible ∷ [] }
 
 abbrev pub discarded : World → Discard → Outcome
 discarded w why = record { world = w; acts = Discards why ∷ [] }
+
+-- nothing happens
+abbrev pub nothing : World → Outcome
+nothing w = record { world = w; acts = [] }
 
 abbrev pub with_client : World → (machine : ℕ) → Client → World
 with_client w machine c = record w { clients = with_numbered FIRST_CLIENT w.clients machine c }
@@ -40,30 +59,35 @@ with_line c process l = record c { lines = with_numbered 1 c.lines process l }
 abbrev pub with_packet : World → Packet → World
 with_packet w p = record w { bag = w.bag ++ p ∷ [] }
 
--- the first packet of a call that a caller has started
-abbrev pub call_packet : (machine : ℕ) → caller.Caller → List ℕ → Packet
-call_packet machine c arguments =
-    record { from = machine; to = SERVER_MACHINE; header = caller.first_sending c 0; payload = arguments }
+-- The steps of processes.
 
--- the caller of a process that starts what was asked
-abbrev pub started_caller : Line → CallWord → caller.Caller
-started_caller l asked =
-    (caller.on_start_call l.caller l.next l.binding (procedure_of asked) (length (arguments_of asked))).caller
+-- what a process tells of its call, or its bind
+abbrev pub tells : World → Call → Said → Outcome
+tells w call SaysNothing = nothing w
+tells w call (Sends p) = record { world = with_packet w p; acts = CallerSends (length w.bag + 1) p ∷ [] }
+tells w call Waits = record { world = w; acts = TellsWaiting call ∷ [] }
+tells w call (Returned x) = record { world = w; acts = Returns x ∷ [] }
+tells w call (Fails cause) = record { world = w; acts = act.Fails call cause ∷ [] }
+tells w call BindFails = record { world = w; acts = act.BindFails call ∷ [] }
+tells w call (BoundTo export) = record { world = w; acts = act.BindsTo call export ∷ [] }
+tells w call NotBound = record { world = w; acts = act.Unbinds call ∷ [] }
 
--- an idle process starts a call; it reads the second
+-- a process of client c does a step
+unfoldable pub does : World → (machine process : ℕ) → Client → LineStep → Outcome
+does w machine process c s = tells (with_client w machine (with_line c process s.line)) (caller.current_call s.line.caller) s.said
+
+-- the call that a process starts next
+abbrev pub next_call : Line → Call
+next_call l = record { activity = l.caller.activity; number = l.next }
+
+-- an idle process starts a call; its machine reads the second
 abbrev pub starts : World → (machine process : ℕ) → Client → Line → CallWord → Outcome
 starts w machine process c l asked =
-    let started : caller.Caller = started_caller l asked in
-    let packet : Packet = call_packet machine started (arguments_of asked) in
-    let line : Line = record l { caller = started; next = l.next + 1; arguments = arguments_of asked; kept = [] } in
-    record {
-      world = with_packet (with_client w machine (with_line (record c { read = w.second }) process line)) packet;
-      acts =
-          Starts (record { call = caller.current_call started; export = l.binding; procedure = procedure_of asked; arguments = arguments_of asked })
-          ∷ Sends (length w.bag + 1) packet ∷ [];
-    }
+    behind
+    (Starts (record { call = next_call l; export = l.binding; procedure = procedure_of asked; arguments = arguments_of asked }))
+    (does w machine process (record c { read = w.second }) (started machine l (procedure_of asked) (arguments_of asked)))
 
--- a process has used the numbers of this second up; it has read the second
+-- a process has used the numbers of this second up; its machine has read the second
 abbrev pub too_fast : World → (machine : ℕ) → Client → Line → Outcome
 too_fast w machine c l =
     record {
@@ -83,6 +107,37 @@ unfoldable pub call_event : World → (machine process : ℕ) → Option Client 
 call_event w machine process None asked = impossible w
 call_event w machine process (Some c) asked = call_by w machine process c (numbered 1 c.lines process) asked
 
+-- one tick of a process; where there is no such process, nothing happens
+abbrev pub ticks_line : World → (machine process : ℕ) → Client → Option Line → Outcome
+ticks_line w machine process c None = nothing w
+ticks_line w machine process c (Some l) = does w machine process c (ticked machine l)
+
+abbrev pub ticks_client : World → (machine process : ℕ) → Option Client → Outcome
+ticks_client w machine process None = nothing w
+ticks_client w machine process (Some c) = ticks_line w machine process c (numbered 1 c.lines process)
+
+unfoldable pub tick : World → (machine process : ℕ) → Outcome
+tick w machine process = ticks_client w machine process (numbered FIRST_CLIENT w.clients machine)
+
+-- so many ticks, each over the world that the one before leaves
+abbrev pub ticks : World → (machine process : ℕ) → (count : ℕ) → Outcome
+ticks w machine process zero = nothing w
+ticks w machine process (suc count) =
+    let first : Outcome = tick w machine process in
+    let more : Outcome = ticks (settled w first) machine process count in
+    record { world = more.world; acts = first.acts ++ more.acts }
+
+-- ticks in which nothing happens are quiet
+abbrev pub quiet_if_none : List Act → List Act
+quiet_if_none [] = Quiet ∷ []
+quiet_if_none (a ∷ acts) = a ∷ acts
+
+unfoldable pub tick_event : World → (machine process count : ℕ) → Outcome
+tick_event w machine process count =
+    record { world = (ticks w machine process count).world; acts = quiet_if_none (ticks w machine process count).acts }
+
+-- Deliveries.
+
 -- the server takes a packet, or has no room for it
 unfoldable pub server_takes : World → (number : ℕ) → Packet → Outcome
 server_takes w k p =
@@ -90,14 +145,12 @@ server_takes w k p =
     then record { world = record w { server = record w.server { ready = w.server.ready ++ p ∷ [] } }; acts = Readies k ∷ [] }
     else discarded w why.NoRoom
 
--- a caller's act on a packet
-abbrev pub heard : World → (number : ℕ) → Packet → Client → Line → caller.Caller → caller.Act → Outcome
-heard w k p c l after (caller.Last signal) =
-    record {
-      world = with_client w p.to (with_line c (p.header.hint + 1) (record l { caller = after }));
-      acts = Hears p.header.call.activity k ∷ Returns (record { call = p.header.call; signal = signal; reply = p.payload }) ∷ [];
-    }
-heard w k p c l after _ = discarded w why.Unused
+-- a process has a packet of the call that it has open: an act by which nothing changes leaves it unused
+abbrev pub hears : World → (number : ℕ) → Packet → Client → Line → (unused : Bool) → Outcome
+hears w k p c l unused =
+    if unused
+    then discarded w why.Unused
+    else behind (Hears l.caller.activity k) (does w p.to (p.header.hint + 1) c (heard p.to l p))
 
 -- the cell takes a packet of the number that its caller waits for
 unfoldable pub line_takes : World → (number : ℕ) → Packet → Client → Option Line → Outcome
@@ -106,7 +159,7 @@ line_takes w k p c (Some l) =
     if caller.is_idle l.caller.state
     then discarded w why.Stale
     else (if l.caller.number == p.header.call.number
-    then heard w k p c l (caller.on_packet l.caller p.header).caller (caller.on_packet l.caller p.header).act
+    then hears w k p c l (caller.is_unused (caller.on_packet l.caller p.header).act)
     else discarded w why.Stale)
 
 -- the cell of the client that the header's hint names takes the packet
@@ -141,53 +194,78 @@ abbrev pub show_event : World → (number : ℕ) → Option Packet → Outcome
 show_event w k None = impossible w
 show_event w k (Some p) = record { world = w; acts = Shows k (frame_of p) ∷ [] }
 
--- what a worker sends, if it does, with the number that the packet has
-abbrev pub sent : World → List Act → Option Packet → Outcome
-sent w acts None = record { world = w; acts = acts }
-sent w acts (Some p) = record { world = with_packet w p; acts = acts ++ Sends (length w.bag + 1) p ∷ [] }
+-- The steps of workers.
 
--- a worker does a step for the packet p
-abbrev pub works : World → (who : ℕ) → Packet → worker.Step → Outcome
-works w number p step =
-    sent
-    (record w {
-      server = record w.server {
-        workers = with_numbered 1 w.server.workers number step.worker;
-        entries = with_entry w.server.entries p.header.call.activity step.entry;
-      };
-    })
-    (Works number p.header.call.number step.did ∷ [])
-    step.sends
+-- what the exports' rows say to a packet
+abbrev pub refusal : Verdict → Option ℕ
+refusal verdict.Accepted = None
+refusal verdict.WrongBinding = Some 1
+refusal verdict.NoProcedure = Some 2
 
--- the body of an admitted call runs
-abbrev pub runs_body : World → (who : ℕ) → Packet → Entry → Served → Outcome
-runs_body w number p e s =
-    let after : World = (works w number p (on_admitted p s.answer e)).world in
+abbrev pub asked_of : List (Option ExportRow) → Packet → Asked
+asked_of rows p =
     record {
-      world = record after { server = record after.server { total = s.total } };
-      acts = Works number p.header.call.number did.Runs ∷ HasRun (run_of p s.answer) ∷ [];
+      named = option_map (look_up rows) (name_in p.payload);
+      refused = refusal (accepts rows p.header.export p.header.procedure);
     }
 
--- an idle worker has taken the packet p, whose activity has this entry
-unfoldable pub claims : World → (who : ℕ) → Packet → Option Entry → Outcome
-claims w number p None = works w number p (drops Empty unfit.Full)
-claims w number p (Some e) = works w number p (on_idle p e)
+-- the entries with that of an activity exchanged, if it is
+abbrev pub exchanged : List Entry → Activity → Option Entry → List Entry
+exchanged entries a None = entries
+exchanged entries a (Some e) = with_entry entries a e
+
+-- what a step adds to the world, behind the worker's act
+abbrev pub adds : World → Act → Adds → Outcome
+adds w told Nothing = record { world = w; acts = told ∷ [] }
+adds w told (ARun run) = record { world = w; acts = told ∷ HasRun run ∷ [] }
+adds w told (APacket p) = record { world = with_packet w p; acts = told ∷ ServerSends (length w.bag + 1) p ∷ [] }
+adds w told (ARejection p) =
+    record {
+      world = with_packet w p;
+      acts = told ∷ ServerSends (length w.bag + 1) p ∷ Rejects (length w.bag + 1) w.server.exports.rows ∷ [];
+    }
+
+-- a worker does a step for the packet p
+unfoldable pub works : World → (who : ℕ) → Packet → worker.Step → Outcome
+works w who p step =
+    adds
+    (record w {
+      server = record w.server {
+        workers = with_numbered 1 w.server.workers who step.worker;
+        entries = exchanged w.server.entries p.header.call.activity step.entry;
+      };
+    })
+    (Works who p.header.call.number step.did)
+    step.adds
+
+-- a worker with an admitted call: the body runs, and the service has a new total, or it waits for a buffer
+abbrev pub runs_body : World → (who : ℕ) → (buffer : Bool) → Packet → (arguments : List ℕ) → Served → Outcome
+runs_body w who buffer p arguments s =
+    works
+    (record w { server = record w.server { total = if buffer then s.total else w.server.total } })
+    who p (on_admitted buffer p arguments s.answer)
 
 -- an idle worker takes the oldest ready packet; without one, it stays idle
 unfoldable pub claims_next : World → (who : ℕ) → List Packet → Outcome
-claims_next w number [] = record { world = w; acts = Idles number ∷ [] }
-claims_next w number (p ∷ rest) =
-    claims (record w { server = record w.server { ready = rest } }) number p (entry_at w.server.entries p.header.call.activity)
+claims_next w who [] = record { world = w; acts = Idles who ∷ [] }
+claims_next w who (p ∷ rest) =
+    works
+    (record w { server = record w.server { ready = rest } })
+    who p (on_idle (asked_of w.server.exports.rows p) (entry_at w.server.entries p.header.call.activity) p)
 
+-- the entry of a packet's activity
 abbrev pub entry_of : World → Packet → Entry
 entry_of w p = unwrap_or (entry_at w.server.entries p.header.call.activity) Empty
 
 unfoldable pub work_event : World → (who : ℕ) → Option Worker → Outcome
-work_event w number None = impossible w
-work_event w number (Some Resting) = claims_next w number w.server.ready
-work_event w number (Some (Claimed p seen)) = works w number p (on_claimed p seen (entry_of w p))
-work_event w number (Some (Admitted p)) = runs_body w number p (entry_of w p) (served w.server.total p.header.procedure p.payload)
-work_event w number (Some (Ran p answer)) = works w number p (on_ran p answer (entry_of w p))
+work_event w who None = impossible w
+work_event w who (Some Resting) = claims_next w who w.server.ready
+work_event w who (Some (Claimed p seen)) = works w who p (on_claimed has_buffer p seen (entry_of w p))
+work_event w who (Some (Took p)) = works w who p (on_took p (entry_of w p))
+work_event w who (Some (Admitted p arguments)) =
+    runs_body w who has_buffer p arguments (served w.server.total p.header.procedure arguments)
+work_event w who (Some (Ran p answer)) = works w who p (on_ran p answer)
+work_event w who (Some (Fetched p)) = works w who p (on_fetched p (entry_of w p))
 
 abbrev pub journal_event : World → Outcome
 journal_event w = record { world = w; acts = ListsRuns w.records.journal ∷ [] }
@@ -200,6 +278,7 @@ abbrev pub outcome : World → Event → Outcome
 outcome w (event.Call machine process asked) = call_event w machine process (numbered FIRST_CLIENT w.clients machine) asked
 outcome w (event.Deliver k) = deliver_event w k (packet_at w.bag k)
 outcome w (event.Damage k bit) = damage_event w k bit (packet_at w.bag k)
+outcome w (event.Tick machine process count) = tick_event w machine process count
 outcome w (event.Show k) = show_event w k (packet_at w.bag k)
 outcome w (event.Work number) = work_event w number (numbered 1 w.server.workers number)
 outcome w event.Journal = journal_event w
@@ -207,7 +286,7 @@ outcome w event.End = end_event w
 
 -- the world after an event, with what happened recorded
 unfoldable pub step : World → Event → World
-step w e = record (outcome w e).world { records = recorded_all w.records (outcome w e).acts }
+step w e = settled w (outcome w e)
 
 -- the world after a list of events
 abbrev pub run : World → List Event → World

@@ -1,14 +1,14 @@
 -- The first fault of a text that is no script: the lines are looked at in their order, and each by an ordered table
 -- of tests, then word by word.
-use Rattle.std.specs.Prelude.{ℕ, ◌+◌, ◌-◌, List, [], ◌∷◌, ◌++◌, length, filter, Bool, true, false, not, ◌&&◌, ◌||◌, ◌==◌, nat_eq, nat_le, nat_lt, if◌then◌else◌, Option, Some, None, codes, slice_index}
-use Rattle.std.specs.Option.{option_map, option_or, option_to_list, is_some}
-use Rattle.std.specs.List.{list_all, list_any, count_by}
+use Rattle.std.specs.Prelude.{ℕ, ◌+◌, ◌-◌, List, [], ◌∷◌, ◌++◌, length, filter, Bool, true, false, not, ◌&&◌, ◌||◌, ◌==◌, nat_le, nat_lt, if◌then◌else◌, Option, Some, None, codes, slice_index}
+use Rattle.std.specs.Option.{option_map, option_or, is_some}
+use Rattle.std.specs.List.{list_all, count_by}
 use Rattle.std.specs.Char.{is_ascii_digit}
 use Rattle.std.specs.Str.{bytes_eq}
 use Rattle.std.specs.Str.Parse.{digits_value}
 use Rattle.binder.specs.Names.{is_name}
 use Rattle.replay_model.specs.Forms.{Place, The, Number, Name, Value, Numeral, Text, Form, forms}
-use Rattle.replay_model.specs.Script.{is_blank, is_newline, is_skipped, words_of, lines_of_text, is_end, delivered_packet}
+use Rattle.replay_model.specs.Script.{is_blank, is_newline, is_skipped, words_of, lines_of_text, is_end}
 use Rattle.replay_model.specs.FaultNumber.{number_of}
 use Rattle.replay_model.specs.declared.event.Event.{Event}
 use Rattle.replay_model.specs.declared.text_fault.TextFault.{TextFault}
@@ -117,14 +117,13 @@ abbrev pub fault_by : List Form → List (List ℕ) → Option TextFault
 fault_by [] words = None
 fault_by (f ∷ more) words = words_fault f.places words
 
--- what the lines above a line say: whether one of them counts, whether one is the end, and the packets that they bring
+-- what the lines above a line say: whether one of them counts, and whether one is the end
 pub record Above : Type 0 where
   pub begun : Bool
   pub ended : Bool
-  pub brought : List ℕ
 
 abbrev pub nothing_above : Above
-nothing_above = record { begun = false; ended = false; brought = [] }
+nothing_above = record { begun = false; ended = false }
 
 -- blanks and printable ASCII
 abbrev pub is_byte_of_line : ℕ → Bool
@@ -149,24 +148,11 @@ line_checks above line words =
     ∷ (fault.Late, not above.ended)
     ∷ form_checks above.begun words
 
--- an event that brings a packet which a line above brings; it can't be played yet
-abbrev pub repeats : List ℕ → Option ℕ → Bool
-repeats brought None = false
-repeats brought (Some packet) = list_any (nat_eq packet) brought
-
-abbrev pub packet_of : Option Event → Option ℕ
-packet_of None = None
-packet_of (Some e) = delivered_packet e
-
-abbrev pub repeat_checks : Above → List (List ℕ) → Checks
-repeat_checks above words = (fault.NotYet, not (repeats above.brought (packet_of (event_of words)))) ∷ []
-
 -- the first fault of a line of these words
 abbrev pub fault_of_words : Above → List ℕ → List (List ℕ) → Option TextFault
 fault_of_words above line words =
     option_or (first_of (line_checks above line words))
-    (option_or (fault_by (fitting words) words)
-    (first_of (repeat_checks above words)))
+    (fault_by (fitting words) words)
 
 -- a line that is skipped has no fault, and isn't counted
 abbrev pub fault_of_line : Above → List ℕ → Option TextFault
@@ -180,7 +166,6 @@ abbrev pub with_words : Above → List (List ℕ) → Above
 with_words above words = record {
   begun = true;
   ended = ends (event_of words) || above.ended;
-  brought = option_to_list (packet_of (event_of words)) ++ above.brought;
 }
 
 -- what the lines above the next line say

@@ -1,40 +1,32 @@
 -- The world: a second, a server, its clients, every packet that was sent, and the records.
-use Rattle.std.specs.Prelude.{ℕ, ◌+◌, ◌-◌, ◌*◌, List, [], ◌∷◌, map, replicate, Option, Some, None, slice_get, slice_set, Bool, ◌&&◌, nat_lt, nat_le, if◌then◌else◌, option_and_then, codes}
+use Rattle.std.specs.Prelude.{ℕ, ◌+◌, ◌-◌, ◌*◌, List, [], ◌∷◌, map, replicate, Option, Some, None, slice_get, slice_set, Bool, true, ◌&&◌, nat_lt, nat_le, if◌then◌else◌, option_and_then, codes}
 use Rattle.std.specs.List.{range_with_len}
 use Rattle.rpc_header.specs.declared.Activity.{Activity}
 use Rattle.rpc_header.specs.declared.Export.{Export}
+use Rattle.binder.specs.Exports.{Exports, booted, exported}
+use Rattle.binder.specs.declared.interface.InterfaceName.{InterfaceName}
 use Rattle.call_rules.specs.Packet.{Packet}
 use Rattle.call_rules.specs.Entry.{Entry, Empty}
 use Rattle.call_rules.specs.Worker.{Worker, Resting}
-use Rattle.call_rules.specs.Caller.{Caller, idle}
+use Rattle.call_rules.specs.Caller.{idle}
 use Rattle.replay_model.specs.declared.limits.TheConstants.{FIRST_CLIENT, LAST_CLIENT, CLIENTS, LAST_PROCESS, LAST_WORKER}
-use Rattle.binder.specs.declared.exports.TheConstants.{EXPORT_ROWS}
-use Rattle.replay_model.specs.Record.{ExportRow, Records, no_records}
+use Rattle.replay_model.specs.Process.{Line}
+use Rattle.replay_model.specs.Record.{Records, no_records}
 
--- the exports and the next identifier; the entries of the activities; four workers; the packets that are
--- ready, oldest first; the total of the test service. small and long are its numbers of buffers
+-- boot is the second in which it booted, and read the last second that it has read. The exports; the entries of
+-- the activities; four workers; the packets that are ready, oldest first; the total of the test service.
+-- small and long are its numbers of buffers
 pub record Server : Type 0 where
   pub small : ℕ
   pub long : ℕ
   pub boot : ℕ
   pub read : ℕ
-  pub rows : List (Option ExportRow)
-  pub next : ℕ
+  pub exports : Exports
   pub entries : List Entry
   pub workers : List Worker
   pub ready : List Packet
   pub total : ℕ
 
--- a process of a client: its caller, the number of its next call, its binding, the arguments of its call
--- and what it has kept of a reply
-pub record Line : Type 0 where
-  pub caller : Caller
-  pub next : ℕ
-  pub binding : Export
-  pub arguments : List ℕ
-  pub kept : List ℕ
-
--- boot is the second in which a machine booted, and read the last second that it has read
 pub record Client : Type 0 where
   pub boot : ℕ
   pub read : ℕ
@@ -88,9 +80,12 @@ number_limit second = (second + 1) * 65536
 abbrev pub first_binding : Export
 first_binding = record { identifier = 1; index = 0 }
 
--- the one export of a server that has booted
-abbrev pub main_row : ℕ → ExportRow
-main_row boot = record { kind = codes "Test"; instance = codes "main"; identifier = boot; procedures = 5 }
+-- the export that a server boots with, and its number of procedures
+abbrev pub main_name : InterfaceName
+main_name = record { kind = codes "Test"; instance = codes "main" }
+
+abbrev pub service_procedures : ℕ
+service_procedures = 5
 
 abbrev pub booted_server : (small long boot : ℕ) → Server
 booted_server small long boot =
@@ -99,8 +94,7 @@ booted_server small long boot =
       long = long;
       boot = boot;
       read = boot;
-      rows = Some (main_row boot) ∷ replicate (EXPORT_ROWS - 1) None;
-      next = boot + 1;
+      exports = exported (booted boot) main_name service_procedures;
       entries = replicate (CLIENTS * LAST_PROCESS) Empty;
       workers = replicate LAST_WORKER Resting;
       ready = [];
@@ -125,6 +119,10 @@ booted_client boot machine =
       read = boot;
       lines = map (booted_line boot machine) (range_with_len 1 LAST_PROCESS);
     }
+
+-- until boards come, the pool has a buffer for whoever asks
+abbrev pub has_buffer : Bool
+has_buffer = true
 
 -- the world begins at second 1, in which all its machines boot
 abbrev pub first_world : (small long : ℕ) → World

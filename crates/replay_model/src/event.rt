@@ -6,6 +6,9 @@ pub const NULL: u16 = 0;
 /// The number of its procedure `add`.
 pub const ADD: u16 = 1;
 
+/// The number of its procedure `bump`.
+pub const BUMP: u16 = 2;
+
 /// What a call asks of the test service.
 #[derive(Clone, Copy, PartialEq, Eq, Debug)]
 pub enum CallWord {
@@ -13,6 +16,8 @@ pub enum CallWord {
     Null,
     /// The sum of two numbers.
     Add(u32, u32),
+    /// The service's total, to which this number is added.
+    Bump(u32),
 }
 
 /// One line of a script. Machines, processes, workers and packets are numbered as in the script.
@@ -23,6 +28,12 @@ pub enum Event {
         machine: u8,
         process: u8,
         word: CallWord,
+    },
+    /// So many ticks of a process pass.
+    Tick {
+        machine: u8,
+        process: u8,
+        count: u16,
     },
     /// The packet of this number comes to its receiver.
     Deliver(u32),

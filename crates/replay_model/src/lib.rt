@@ -14,7 +14,7 @@ mod line_laws;
 mod text_fault;
 
 pub use discard::Discard;
-pub use event::{ADD, CallWord, Event, NULL};
+pub use event::{ADD, BUMP, CallWord, Event, NULL};
 pub use laws::fields_are_a_header;
 pub use line_laws::acts_print_whole_lines;
 pub use text_fault::TextFault;

@@ -34,5 +34,8 @@ pub const LONG_BUFFERS: usize = 72;
 /// The last bit of the largest frame. Bits are numbered from 0.
 pub const LAST_BIT: u16 = (8 * LARGEST_FRAME - 1) as u16;
 
+/// The most ticks of one line.
+pub const LARGEST_COUNT: u16 = 1000;
+
 /// The largest number of a script, where a line wants no smaller one.
 pub const LARGEST_NUMBER: u32 = u32::MAX;
