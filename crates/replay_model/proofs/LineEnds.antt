@@ -5,9 +5,10 @@ use Rattle.std.specs.Fmt.{decimal}
 use Rattle.lane_checksum.specs.Digests.{digest}
 use Rattle.lane_checksum.specs.declared.Digest.{Digest}
 use Rattle.call_rules.specs.Packet.{Call, Fields}
+use Rattle.call_rules.specs.declared.caller.TheConstants.{TRIES}
 use Rattle.replay_model.specs.Digests.{RunDigest, run_digest}
 use Rattle.replay_model.specs.Record as act
-use Rattle.replay_model.specs.Lines.{EndsLine, lines_of_act, lines_of, return_line, journal_lines, run_lines, run_line, run_text, packet_line, header_text, end_line, newline, blank, call_text, bytes_text, exception_number, hex, discard_text, did_text}
+use Rattle.replay_model.specs.Lines.{EndsLine, lines_of_act, lines_of, return_line, failure_line, journal_lines, run_lines, run_line, run_text, packet_line, header_text, end_line, newline, blank, call_text, bytes_text, exception_number, hex, discard_text, did_text}
 
 pub EndsLine-append : (these those : List ℕ) → EndsLine these → EndsLine those → EndsLine (these ++ those)
 EndsLine-append these those p (inl none) =
@@ -43,18 +44,31 @@ end_ends c =
     ends (codes "end runs " ++ decimal c.runs ++ codes " returned " ++ decimal c.returned ++ codes " signalled "
     ++ decimal c.signalled ++ codes " failed " ++ decimal c.failed ++ codes " refused " ++ decimal c.refused)
 
+failure_ends : (c : Call) (cause : act.Cause) → EndsLine (failure_line c cause)
+failure_ends c act.Unanswered = ends (codes "failed " ++ call_text c ++ blank ++ decimal TRIES)
+failure_ends c (act.RefusedFor reason) = ends (codes "refused " ++ call_text c ++ blank ++ decimal reason)
+
 pub act_ends : (a : act.Act) → EndsLine (lines_of_act a)
 act_ends act.Impossible = ends (codes "impossible")
 act_ends (act.Starts s) = ends (codes "start " ++ call_text s.call)
 act_ends (act.TooFast a number second) = ends (codes "nostart TooFast " ++ decimal number ++ blank ++ decimal second)
-act_ends (act.Sends k p) = packet_ends k p.from p.to p.header (length p.payload)
+act_ends (act.CallerSends k p) = packet_ends k p.from p.to p.header (length p.payload)
+act_ends (act.ServerSends k p) = packet_ends k p.from p.to p.header (length p.payload)
 act_ends (act.Readies k) = ends (codes "ready " ++ decimal k)
 act_ends (act.Hears a k) = inl refl
+act_ends (act.TellsWaiting call) = ends (codes "waiting " ++ call_text call)
 act_ends (act.Returns r) = return_ends r.call r.signal (digest r.reply)
+act_ends (act.Fails call cause) = failure_ends call cause
+act_ends (act.BindFails call) = ends (codes "bindfailed " ++ call_text call ++ blank ++ decimal TRIES)
+act_ends (act.BindsTo call export) =
+    ends (codes "bound " ++ call_text call ++ blank ++ decimal export.index ++ blank ++ decimal export.identifier)
+act_ends (act.Unbinds call) = ends (codes "unbound " ++ call_text call)
+act_ends act.Quiet = ends (codes "quiet")
 act_ends (act.Discards why) = ends (codes "drop " ++ discard_text why)
 act_ends (act.Idles number) = ends (codes "worker " ++ decimal number ++ codes " idle")
 act_ends (act.Works number n did) = ends (codes "worker " ++ decimal number ++ blank ++ did_text n did)
 act_ends (act.HasRun run) = inl refl
+act_ends (act.Rejects k rows) = inl refl
 act_ends (act.Shows k bytes) = ends (codes "frame " ++ decimal k ++ blank ++ decimal (length bytes) ++ blank ++ hex bytes)
 act_ends (act.ListsRuns runs) = journal_ends (map run_digest runs)
 act_ends (act.Ends counts) = end_ends counts

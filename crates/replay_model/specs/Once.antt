@@ -1,5 +1,5 @@
 -- What holds of the world after any events: at most once, what returns tell, and why calls failed.
-use Rattle.std.specs.Prelude.{◌≡◌, ◌≢◌, ℕ, List, [], ◌∷◌, map, length, Option, Some, All, Contains, if◌then◌else◌}
+use Rattle.std.specs.Prelude.{◌≡◌, ◌≢◌, ℕ, List, [], ◌∷◌, map, length, Some, All, Contains, if◌then◌else◌}
 use Rattle.std.specs.List.{AllByRecursion}
 use Rattle.rpc_header.specs.declared.Activity.{Activity}
 use Rattle.rpc_header.specs.declared.Kind.{Kind}

@@ -2,7 +2,7 @@
 use Rattle.std.specs.Prelude.{ℕ, ◌+◌, List, [], ◌++◌, length, Option, Some, None, Bool, if◌then◌else◌}
 use Rattle.rpc_header.specs.declared.Export.{Export}
 use Rattle.fragments.specs.Pieces.{piece}
-use Rattle.call_rules.specs.Packet.{Call, Fields, Packet}
+use Rattle.call_rules.specs.Packet.{Fields, Packet}
 use Rattle.call_rules.specs.Caller.{Caller, Act, Send, Keep, Last, TellsWaiting, Bound, Unbound, Refused, Failed, Quiet, Unused, Step, current_call, is_binding, on_start_call, on_packet, on_tick}
 use Rattle.replay_model.specs.Record.{Return, Cause, Unanswered, RefusedFor}
 use Rattle.replay_model.specs.declared.limits.TheConstants.{SERVER_MACHINE}
@@ -36,8 +36,8 @@ abbrev pub data_of : (arguments : List ℕ) → (piece : Option ℕ) → List �
 data_of arguments None = []
 data_of arguments (Some i) = piece arguments i
 
-abbrev pub packet_from : (me : ℕ) → Fields → (data : List ℕ) → Packet
-packet_from me header data = record { from = me; to = SERVER_MACHINE; header = header; payload = data }
+abbrev pub packet_from : (me : ℕ) → Fields → (bytes : List ℕ) → Packet
+packet_from me header bytes = record { from = me; to = SERVER_MACHINE; header = header; payload = bytes }
 
 -- a call or a bind has come to its end
 abbrev pub ended : Line → Caller → Line
@@ -47,23 +47,23 @@ ended l c = record l { caller = c; arguments = []; kept = [] }
 abbrev pub gives_up : (binding : Bool) → Said
 gives_up binding = if binding then BindFails else Fails Unanswered
 
--- a process of machine `me` whose caller has become c by this act; data is that of the packet that came, if one did
-abbrev pub on_act : (me : ℕ) → Line → Caller → Act → (data : List ℕ) → LineStep
-on_act me l c (Send h piece) data = record { line = record l { caller = c }; said = Sends (packet_from me h (data_of l.arguments piece)) }
-on_act me l c (Keep h) data =
-    record { line = record l { caller = c; kept = l.kept ++ data }; said = Sends (packet_from me h []) }
-on_act me l c (Last signal) data =
-    record { line = ended l c; said = Returned (record { call = current_call c; signal = signal; reply = l.kept ++ data }) }
-on_act me l c TellsWaiting data = record { line = record l { caller = c }; said = Waits }
-on_act me l c (Bound export) data = record { line = record (ended l c) { binding = export }; said = BoundTo export }
-on_act me l c Unbound data = record { line = ended l c; said = NotBound }
-on_act me l c (Refused reason) data = record { line = ended l c; said = Fails (RefusedFor reason) }
-on_act me l c Failed data = record { line = ended l c; said = gives_up (is_binding l.caller.state) }
-on_act me l c Quiet data = record { line = record l { caller = c }; said = SaysNothing }
-on_act me l c Unused data = record { line = l; said = SaysNothing }
+-- a process of machine `me` whose caller has become c by this act; bytes are the data of the packet that came, if one did
+abbrev pub on_act : (me : ℕ) → Line → Caller → Act → (bytes : List ℕ) → LineStep
+on_act me l c (Send h piece) bytes = record { line = record l { caller = c }; said = Sends (packet_from me h (data_of l.arguments piece)) }
+on_act me l c (Keep h) bytes =
+    record { line = record l { caller = c; kept = l.kept ++ bytes }; said = Sends (packet_from me h []) }
+on_act me l c (Last signal) bytes =
+    record { line = ended l c; said = Returned (record { call = current_call c; signal = signal; reply = l.kept ++ bytes }) }
+on_act me l c TellsWaiting bytes = record { line = record l { caller = c }; said = Waits }
+on_act me l c (Bound export) bytes = record { line = record (ended l c) { binding = export }; said = BoundTo export }
+on_act me l c Unbound bytes = record { line = ended l c; said = NotBound }
+on_act me l c (Refused reason) bytes = record { line = ended l c; said = Fails (RefusedFor reason) }
+on_act me l c Failed bytes = record { line = ended l c; said = gives_up (is_binding l.caller.state) }
+on_act me l c Quiet bytes = record { line = record l { caller = c }; said = SaysNothing }
+on_act me l c Unused bytes = record { line = l; said = SaysNothing }
 
-abbrev pub acts : (me : ℕ) → Line → Step → (data : List ℕ) → LineStep
-acts me l s data = on_act me l s.caller s.act data
+abbrev pub acts : (me : ℕ) → Line → Step → (bytes : List ℕ) → LineStep
+acts me l s bytes = on_act me l s.caller s.act bytes
 
 -- a process that is to start a call: its next number is used, and it keeps the arguments
 abbrev pub takes_number : Line → (arguments : List ℕ) → Line

@@ -1,7 +1,6 @@
 -- The grammar of scripts.
-use Rattle.std.specs.Prelude.{◌≡◌, ℕ, ◌≤◌, List, [], ◌∷◌, map, filter, length, Option, Some, None, Bool, true, false, not, ◌==◌, ◌||◌, ◌&&◌, nat_le, if◌then◌else◌, IsTrue, MatchBool}
-use Rattle.std.specs.List.{slice_split, list_all, AllZip, Contains}
-use Rattle.std.specs.Char.{is_ascii_digit}
+use Rattle.std.specs.Prelude.{◌≡◌, ℕ, ◌≤◌, List, [], ◌∷◌, map, filter, length, Some, Bool, true, false, not, ◌==◌, ◌||◌, if◌then◌else◌, IsTrue, MatchBool}
+use Rattle.std.specs.List.{slice_split, AllZip, Contains}
 use Rattle.std.specs.Fmt.{decimal}
 use Rattle.binder.specs.Names.{is_name}
 use Rattle.replay_model.specs.Forms.{Place, The, Number, Name, Value, Numeral, Text, Form, forms}

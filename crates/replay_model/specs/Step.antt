@@ -1,6 +1,6 @@
 -- The step of each event: the world after it, and what happens in it. An impossible event leaves the world
 -- as it is.
-use Rattle.std.specs.Prelude.{ℕ, zero, suc, ◌+◌, ◌*◌, List, [], ◌∷◌, ◌++◌, length, Option, Some, None, unwrap_or, option_and_then, Bool, ◌==◌, nat_lt, nat_le, if◌then◌else◌}
+use Rattle.std.specs.Prelude.{ℕ, zero, suc, ◌+◌, ◌*◌, List, [], ◌∷◌, ◌++◌, length, Option, Some, None, unwrap_or, Bool, ◌==◌, nat_lt, nat_le, if◌then◌else◌}
 use Rattle.std.specs.Option.{option_map}
 use Rattle.udp_frames.specs.Damage.{flipped}
 use Rattle.rpc_header.specs.declared.Activity.{Activity}

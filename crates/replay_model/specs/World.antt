@@ -1,5 +1,5 @@
 -- The world: a second, a server, its clients, every packet that was sent, and the records.
-use Rattle.std.specs.Prelude.{ℕ, ◌+◌, ◌-◌, ◌*◌, List, [], ◌∷◌, map, replicate, Option, Some, None, slice_get, slice_set, Bool, true, ◌&&◌, nat_lt, nat_le, if◌then◌else◌, option_and_then, codes}
+use Rattle.std.specs.Prelude.{ℕ, ◌+◌, ◌-◌, ◌*◌, List, [], map, replicate, Option, None, slice_get, slice_set, Bool, true, ◌&&◌, nat_lt, nat_le, if◌then◌else◌, option_and_then, codes}
 use Rattle.std.specs.List.{range_with_len}
 use Rattle.rpc_header.specs.declared.Activity.{Activity}
 use Rattle.rpc_header.specs.declared.Export.{Export}

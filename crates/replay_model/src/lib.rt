@@ -20,4 +20,6 @@ pub use line_laws::acts_print_whole_lines;
 pub use text_fault::TextFault;
 
 #[cfg(test)]
+mod row_tests;
+#[cfg(test)]
 mod tests;
