@@ -11,12 +11,14 @@ mod event;
 mod laws;
 pub mod limits;
 mod line_laws;
+mod run_line;
 mod text_fault;
 
 pub use discard::Discard;
 pub use event::{ADD, BUMP, CallWord, Event, NULL};
 pub use laws::fields_are_a_header;
 pub use line_laws::acts_print_whole_lines;
+pub use run_line::RunLine;
 pub use text_fault::TextFault;
 
 #[cfg(test)]
