@@ -1,16 +1,17 @@
-//! The lines of calls: how they start and how they return.
+//! The lines of calls and binds: how they start and how they end.
 
-ghost use Rattle.std.specs.Prelude.{◌≡◌, ◌++◌, ◌<◌, ◌^◌, length, OnOk, Some};
+ghost use Rattle.std.specs.Prelude.{◌≡◌, ◌++◌, OnOk, Some};
 ghost use Rattle.rpc_header.specs.declared.Activity.{Activity};
 ghost use Rattle.call_rules.specs.Packet.{call_of};
 ghost use Rattle.replay_model.specs.Record as act;
-ghost use Rattle.replay_model.specs.Record.{Start};
-ghost use Rattle.replay_model.specs.Lines.{call_text, lines_of_act};
+ghost use Rattle.replay_model.specs.Record.{Start, Unanswered, RefusedFor};
+ghost use Rattle.replay_model.specs.Lines.{call_text, lines_of_act, return_line};
 
 use crate::bytes::{BytesText, ExceptionText};
 use crate::text::Print;
-use lane_checksum::digest_of;
-use rpc_header::CallId;
+use call_rules::TRIES;
+use lane_checksum::Digest;
+use rpc_header::{CallId, Export};
 use std::alloc::AllocError;
 use std::fmt::{self, Display, Formatter};
 
@@ -54,22 +55,69 @@ pub fn put_too_fast(out: &mut Vec<u8>, number: u64, second: u32) -> Result<(), A
     writeln!(out, "nostart TooFast {number} {second}")
 }
 
-/// Appends the line of a call that returned, by a signal or not, with its reply of fewer than 2^32 bytes.
+/// Appends the line of a call that returned, by a signal or not, with the digest of its reply.
 pub fn put_return(
     out: &mut Vec<u8>,
     call: CallId,
     signal: bool,
-    reply: &[u8],
+    reply: Digest,
 ) -> Result<(), AllocError>
-    requires { length reply.now < 2 ^ 32 }
-    ensures { OnOk result (out.new.items ≡ out.old.items
-        ++ lines_of_act (act.Returns (record { call = call_of call; signal = signal; reply = reply.now }))) }
+    ensures { OnOk result (out.new.items ≡ out.old.items ++ return_line (call_of call) signal reply) }
 {
     let call = CallText(call);
-    let reply = digest_of(reply);
     if signal {
         writeln!(out, "signalled {call} {}", ExceptionText(reply))
     } else {
         writeln!(out, "returned {call} {}", BytesText(reply))
     }
+}
+
+/// Appends the line of a call that the server has, and works on.
+pub fn put_waiting(out: &mut Vec<u8>, call: CallId) -> Result<(), AllocError>
+    ensures { OnOk result (out.new.items ≡ out.old.items ++ lines_of_act (act.TellsWaiting (call_of call))) }
+{
+    writeln!(out, "waiting {}", CallText(call))
+}
+
+/// Appends the line of a call that failed, since none of its last transmissions was answered.
+pub fn put_failure(out: &mut Vec<u8>, call: CallId) -> Result<(), AllocError>
+    ensures { OnOk result (out.new.items ≡ out.old.items ++ lines_of_act (act.Fails (call_of call) Unanswered)) }
+{
+    writeln!(out, "failed {} {TRIES}", CallText(call))
+}
+
+/// Appends the line of a call that failed, since the server refused it for this reason.
+pub fn put_refusal(out: &mut Vec<u8>, call: CallId, reason: u8) -> Result<(), AllocError>
+    ensures { OnOk result (out.new.items ≡ out.old.items ++ lines_of_act (act.Fails (call_of call) (RefusedFor reason))) }
+{
+    writeln!(out, "refused {} {reason}", CallText(call))
+}
+
+/// Appends the line of a bind that failed, since none of its transmissions was answered.
+pub fn put_bind_failure(out: &mut Vec<u8>, call: CallId) -> Result<(), AllocError>
+    ensures { OnOk result (out.new.items ≡ out.old.items ++ lines_of_act (act.BindFails (call_of call))) }
+{
+    writeln!(out, "bindfailed {} {TRIES}", CallText(call))
+}
+
+/// Appends the line of a bind that has found this export.
+pub fn put_bound(out: &mut Vec<u8>, call: CallId, export: Export) -> Result<(), AllocError>
+    ensures { OnOk result (out.new.items ≡ out.old.items ++ lines_of_act (act.BindsTo (call_of call) export)) }
+{
+    let call = CallText(call);
+    writeln!(out, "bound {call} {} {}", export.index, export.identifier)
+}
+
+/// Appends the line of a bind that has found no export.
+pub fn put_unbound(out: &mut Vec<u8>, call: CallId) -> Result<(), AllocError>
+    ensures { OnOk result (out.new.items ≡ out.old.items ++ lines_of_act (act.Unbinds (call_of call))) }
+{
+    writeln!(out, "unbound {}", CallText(call))
+}
+
+/// Appends the line of ticks in which nothing happened.
+pub fn put_quiet(out: &mut Vec<u8>) -> Result<(), AllocError>
+    ensures { OnOk result (out.new.items ≡ out.old.items ++ lines_of_act act.Quiet) }
+{
+    writeln!(out, "quiet")
 }

@@ -4,7 +4,7 @@ ghost use Rattle.std.specs.Prelude.{◌≡◌, ◌++◌, ◌<◌, ◌^◌, OnOk}
 ghost use Rattle.replay_model.specs.Record as act;
 ghost use Rattle.replay_model.specs.Record.{counts_of, no_records};
 ghost use Rattle.replay_model.specs.Lines.{lines_of_act};
-ghost use Rattle.replay_lines.specs.Counts.{counts_run, counts_return};
+ghost use Rattle.replay_lines.specs.Counts.{counts_run, counts_return, counts_failure, counts_refusal};
 
 use crate::text::Print;
 use std::alloc::AllocError;
@@ -66,6 +66,22 @@ impl Counts {
         } else {
             self.returned += 1;
         }
+    }
+
+    /// Counts a call that failed, since nobody answered.
+    pub fn count_failure(&mut self)
+        requires { self.old.failed < 2 ^ 62 }
+        ensures { self.new ≡ counts_failure self.old }
+    {
+        self.failed += 1;
+    }
+
+    /// Counts a call that failed, since the server refused it.
+    pub fn count_refusal(&mut self)
+        requires { self.old.refused < 2 ^ 62 }
+        ensures { self.new ≡ counts_refusal self.old }
+    {
+        self.refused += 1;
     }
 }
 

@@ -1,5 +1,4 @@
-//! The lines of a transcript: what is printed of each thing that happens, and what is kept of runs and of
-//! counts to print it.
+//! The lines of a transcript: what is printed of each thing that happens, and the counts of calls.
 //!
 //! Each `put_` call appends the lines of one thing that happens. It answers `Err` only where memory is short, and
 //! `out` may then end in a part of a line.
@@ -14,11 +13,14 @@ mod runs;
 mod text;
 mod work;
 
-pub use calls::{put_impossible, put_return, put_start, put_too_fast};
+pub use calls::{
+    put_bind_failure, put_bound, put_failure, put_impossible, put_quiet, put_refusal, put_return,
+    put_start, put_too_fast, put_unbound, put_waiting,
+};
 pub use counts::{Counts, put_end};
 pub use deliveries::{put_discard, put_frame, put_ready};
 pub use packets::put_packet;
-pub use runs::{RunLine, put_runs};
+pub use runs::put_runs;
 pub use work::{put_idle, put_work};
 
 #[cfg(test)]

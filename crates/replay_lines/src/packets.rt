@@ -9,8 +9,8 @@ use rpc_header::{Header, Kind};
 use std::alloc::AllocError;
 use std::fmt::{self, Display, Formatter};
 
-/// Appends the line of a packet that machine `from` sends to machine `to`, with its number and the length of its
-/// data.
+/// Appends the line of a packet that machine `from`, a client or the server, sends to machine `to`, with its number
+/// and the length of its data.
 pub fn put_packet(
     out: &mut Vec<u8>,
     number: usize,

@@ -2,7 +2,8 @@
 
 use super::*;
 use call_rules::{Did, Unfit};
-use replay_model::Discard;
+use lane_checksum::digest_of;
+use replay_model::{Discard, RunLine};
 use rpc_header::{Activity, CallId, Export, Header, HeaderFault, Kind, number};
 use std::alloc::{AllocError, Global};
 use std::test::Fail;
@@ -45,13 +46,40 @@ fn calls_start_and_return(rt: HostRuntime) -> Result<(), Fail> {
     put_impossible(&mut out)?;
     put_start(&mut out, call)?;
     put_too_fast(&mut out, 131_072, 1)?;
-    put_return(&mut out, call, false, &[])?;
-    put_return(&mut out, call, false, &[0, 0, 0, 1])?;
-    put_return(&mut out, call, true, &[0, 1])?;
+    put_return(&mut out, call, false, digest_of(&[]))?;
+    put_return(&mut out, call, false, digest_of(&[0, 0, 0, 1]))?;
+    put_return(&mut out, call, true, digest_of(&[0, 1]))?;
     let long = long_result(alloc)?;
     assert_eq!(rt; long.len(), 1441);
-    put_return(&mut out, call, false, &long)?;
+    put_return(&mut out, call, false, digest_of(&long))?;
     assert_eq!(rt; out.as_slice(), CALLS);
+    Ok(())
+}
+
+const ENDINGS: &[u8] = b"waiting 2.1 65536\n\
+failed 2.1 65536 8\n\
+refused 2.1 65536 2\n\
+bindfailed 2.1 65536 8\n\
+bound 2.1 65536 3 4\n\
+unbound 2.1 65536\n\
+quiet\n";
+
+#[test]
+fn calls_wait_and_fail_and_names_are_bound(rt: HostRuntime) -> Result<(), Fail> {
+    let call = first_call().ok_or("a call number")?;
+    let export = Export {
+        identifier: 4,
+        index: 3,
+    };
+    let mut out = Vec::new(rt.alloc());
+    put_waiting(&mut out, call)?;
+    put_failure(&mut out, call)?;
+    put_refusal(&mut out, call, 2)?;
+    put_bind_failure(&mut out, call)?;
+    put_bound(&mut out, call, export)?;
+    put_unbound(&mut out, call)?;
+    put_quiet(&mut out)?;
+    assert_eq!(rt; out.as_slice(), ENDINGS);
     Ok(())
 }
 
@@ -160,7 +188,8 @@ fn packets_come_and_workers_step(rt: HostRuntime) -> Result<(), Fail> {
 const ENDS: &[u8] = b"journal empty\n\
 run 1 2.1 65536 null 0: -> 0:\n\
 run 2 2.1 65536 add 17:#0908 -> !0\n\
-end runs 2 returned 1 signalled 1 failed 0 refused 0\n";
+run 3 2.1 65536 bump 4:00000005 -> 4:00000007\n\
+end runs 3 returned 1 signalled 1 failed 2 refused 1\n";
 
 #[test]
 fn runs_are_listed_and_counted(rt: HostRuntime) -> Result<(), Fail> {
@@ -176,6 +205,11 @@ fn runs_are_listed_and_counted(rt: HostRuntime) -> Result<(), Fail> {
     runs.push(RunLine::new(call, 1, &[1; 17], true, &[0, 0]))?;
     counts.count_run();
     counts.count_return(true);
+    runs.push(RunLine::new(call, 2, &[0, 0, 0, 5], false, &[0, 0, 0, 7]))?;
+    counts.count_run();
+    counts.count_failure();
+    counts.count_failure();
+    counts.count_refusal();
     put_runs(&mut out, &runs)?;
     put_end(&mut out, &counts)?;
     assert_eq!(rt; out.as_slice(), ENDS);
