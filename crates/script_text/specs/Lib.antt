@@ -1,4 +1,3 @@
 pub mod Lines
-pub mod Packets
 pub mod Reading
 pub mod Words

@@ -1,10 +1,11 @@
 -- The words of a line as they are taken from it, and the first words and call words that there are.
-use Rattle.std.specs.Prelude.{◌≡◌, ◌≢◌, ◌<◌, ℕ, List, [], ◌∷◌, length, false, Result, Ok, Err, codes, slice_index}
+use Rattle.std.specs.Prelude.{◌≡◌, ◌≢◌, ◌<◌, ℕ, List, [], ◌∷◌, length, false, Option, Some, None, Result, Ok, Err, codes, slice_index}
 use Rattle.std.specs.Borrow.{Bor}
 use Rattle.replay_model.specs.Script.{is_blank, words_of}
 use Rattle.replay_model.specs.declared.text_fault.TextFault.{TextFault}
 use Rattle.replay_model.specs.declared.text_fault.TextFault.TheVariants as fault
 use Rattle.script_text.specs.declared.word.CallWords.{CallWords}
+use Rattle.script_text.specs.declared.word.TickWords.{TickWords}
 use Rattle.script_text.specs.declared.verb.Verb.{Verb}
 use Rattle.script_text.specs.declared.verb.Verb.TheVariants as verb
 use Rattle.script_text.specs.declared.verb.CallVerb.{CallVerb}
@@ -53,6 +54,15 @@ HasOne words (Err f) = (f ≡ fault.Shape) × (length words ≢ 1)
 abbrev pub HasTwo : List (List ℕ) → Result (Bor (List ℕ) × Bor (List ℕ)) TextFault → Type 0
 HasTwo words (Ok r) = words ≡ r.0.now ∷ r.1.now ∷ []
 HasTwo words (Err f) = (f ≡ fault.Shape) × (length words ≢ 2)
+
+-- the words of a number of ticks, which may be left out
+abbrev pub count_words : Option (Bor (List ℕ)) → List (List ℕ)
+count_words None = []
+count_words (Some w) = w.now ∷ []
+
+abbrev pub HasTicks : List (List ℕ) → Result TickWords TextFault → Type 0
+HasTicks words (Ok r) = words ≡ r.machine.now ∷ r.process.now ∷ count_words r.count
+HasTicks words (Err f) = (f ≡ fault.Shape) × (length words ≢ 2) × (length words ≢ 3)
 
 abbrev pub HasCall : List (List ℕ) → Result CallWords TextFault → Type 0
 HasCall words (Ok r) = words ≡ r.machine.now ∷ r.process.now ∷ r.asked.now ∷ words_of r.rest.now

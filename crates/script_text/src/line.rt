@@ -7,9 +7,11 @@ ghost use Rattle.replay_model.specs.TextFault.{Above};
 
 use crate::number::{number, short_number, small_number};
 use crate::verb::{CallVerb, Verb, call_verb_of, verb_of};
-use crate::word::{call_words, first_word, has_bytes_of_line, no_words, one_word, two_words};
+use crate::word::{
+    call_words, first_word, has_bytes_of_line, no_words, one_word, tick_words, two_words,
+};
 use replay_model::limits::{
-    FIRST_CLIENT, LARGEST_NUMBER, LAST_BIT, LAST_CLIENT, LAST_PROCESS, LAST_WORKER,
+    FIRST_CLIENT, LARGEST_COUNT, LARGEST_NUMBER, LAST_BIT, LAST_CLIENT, LAST_PROCESS, LAST_WORKER,
 };
 use replay_model::{CallWord, Event, TextFault};
 
@@ -53,6 +55,7 @@ fn event_of(verb: Verb, rest: &[u8]) -> Result<Event, TextFault>
 {
     match verb {
         Verb::Call => call_of(rest),
+        Verb::Tick => ticks_of(rest),
         Verb::Deliver => Ok(Event::Deliver(packet(one_word(rest)?)?)),
         Verb::Damage => {
             let (word, bit) = two_words(rest)?;
@@ -68,13 +71,32 @@ fn event_of(verb: Verb, rest: &[u8]) -> Result<Event, TextFault>
         Verb::Pool
         | Verb::Second
         | Verb::Bind
-        | Verb::Tick
         | Verb::Export
         | Verb::Withdraw
         | Verb::Restart
         | Verb::Skip
         | Verb::Holders
         | Verb::Sweep => Err(TextFault::NotYet),
+    }
+}
+
+/// The ticks of a line that begins with `tick`: one, where it has no number of them.
+fn ticks_of(rest: &[u8]) -> Result<Event, TextFault>
+    ensures reads { (begun : Bool) → ReadsWords begun (codes "tick" ∷ words_of rest.now) result }
+    ensures in_range { IfOk result InRange }
+{
+    let line = tick_words(rest)?;
+    match line.count {
+        None => Ok(Event::Tick {
+            machine: client(line.machine)?,
+            process: process(line.process)?,
+            count: 1,
+        }),
+        Some(count) => Ok(Event::Tick {
+            machine: client(line.machine)?,
+            process: process(line.process)?,
+            count: short_number(count, 1, LARGEST_COUNT)?,
+        }),
     }
 }
 
@@ -104,11 +126,17 @@ fn call_of(rest: &[u8]) -> Result<Event, TextFault>
                 word: CallWord::Add(any_number(one)?, any_number(other)?),
             })
         }
-        CallVerb::Bump
-        | CallVerb::MaxArg
-        | CallVerb::MaxResult
-        | CallVerb::BigArg
-        | CallVerb::BigResult => Err(TextFault::NotYet),
+        CallVerb::Bump => {
+            let number = one_word(line.rest)?;
+            Ok(Event::Call {
+                machine: client(line.machine)?,
+                process: process(line.process)?,
+                word: CallWord::Bump(any_number(number)?),
+            })
+        }
+        CallVerb::MaxArg | CallVerb::MaxResult | CallVerb::BigArg | CallVerb::BigResult => Err(
+            TextFault::NotYet,
+        ),
     }
 }
 

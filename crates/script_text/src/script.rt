@@ -1,10 +1,8 @@
 //! Scripts, and how their texts are read.
-ghost use Rattle.std.specs.Prelude.{◌≡◌, ◌+◌, ◌-◌, ◌^◌, ◌<◌, ◌≤◌, ◌⊎◌, ℕ, List, ◌∷◌, ◌++◌, Some, None, length, IfOk, IfErr, OnOk, All, vec_len, not};
-ghost use Rattle.std.specs.Option.{option_to_list};
-ghost use Rattle.replay_model.specs.Script.{InRange, IsScript, delivered_packet, is_end};
-ghost use Rattle.replay_model.specs.TextFault.{first_fault, repeats};
+ghost use Rattle.std.specs.Prelude.{◌≡◌, ◌+◌, ◌-◌, ◌^◌, ◌<◌, ◌≤◌, ◌⊎◌, Some, None, length, IfOk, IfErr, OnOk, All, vec_len};
+ghost use Rattle.replay_model.specs.Script.{InRange, IsScript, is_end};
+ghost use Rattle.replay_model.specs.TextFault.{first_fault};
 ghost use Rattle.script_text.specs.Reading.{script_of, ReadsText, IsRefusal};
-ghost use Rattle.script_text.specs.Packets.{HasPackets};
 
 use crate::fault::ScriptFault;
 use crate::line::read_line;
@@ -12,8 +10,7 @@ use crate::lines::first_line;
 use item_list::Items;
 use replay_model::limits::{LONG_BUFFERS, SMALL_BUFFERS};
 use replay_model::{Event, TextFault};
-use std::alloc::{AllocError, Global};
-use std::collections::HashSet;
+use std::alloc::Global;
 
 /// What a script asks for.
 #[derive(Debug, Drop)]
@@ -54,7 +51,6 @@ fn read_events(alloc: Global, text: &[u8]) -> Result<Vec<Event>, ScriptFault>
     ensures few { IfOk result (λ v. vec_len v ≤ length text.now) }
 {
     let mut events = Vec::new(alloc);
-    let mut packets = HashSet::new(alloc);
     let mut ended = false;
     let mut line = 0;
     let mut rest = Some(text);
@@ -64,9 +60,6 @@ fn read_events(alloc: Global, text: &[u8]) -> Result<Vec<Event>, ScriptFault>
         match read_line(first, ended) {
             Ok(None) => {}
             Ok(Some(event)) => {
-                if !brings_new(&mut packets, event)? {
-                    return Err(ScriptFault::at(line, TextFault::NotYet));
-                }
                 ended = is_end(event);
                 events.push(event)?;
             }
@@ -85,16 +78,4 @@ fn is_end(event: Event) -> bool
     ensures { result ≡ is_end event }
 {
     matches!(event, Event::End)
-}
-
-/// Whether the event brings no packet that is brought already. The packet that it brings is one of these from now on.
-fn brings_new(packets: &mut HashSet<u32>, event: Event) -> Result<bool, AllocError>
-    ensures { IfOk result (λ new. (brought : List ℕ) → HasPackets packets.old brought
-        → (new ≡ not (repeats brought (delivered_packet event)))
-        × HasPackets packets.new (option_to_list (delivered_packet event) ++ brought)) }
-{
-    match event {
-        Event::Deliver(packet) | Event::Damage { packet, .. } => Ok(packets.insert(packet)?),
-        _ => Ok(true),
-    }
 }

@@ -76,6 +76,38 @@ fn each_number_of_a_line_stands_in_its_place(rt: HostRuntime) -> Result<(), Fail
 }
 
 #[test]
+fn ticks_may_be_counted_and_packets_may_come_again(rt: HostRuntime) -> Result<(), Fail> {
+    let script = parse_script(
+        rt.alloc(),
+        b"call 3 4 bump 7\ntick 3 4\ntick 9 8 1000\ndeliver 1\ndamage 1 0\ndeliver 1\nend\n",
+    )?;
+    let call = Event::Call {
+        machine: 3,
+        process: 4,
+        word: CallWord::Bump(7),
+    };
+    let expected = [
+        call,
+        Event::Tick {
+            machine: 3,
+            process: 4,
+            count: 1,
+        },
+        Event::Tick {
+            machine: 9,
+            process: 8,
+            count: 1000,
+        },
+        Event::Deliver(1),
+        Event::Damage { packet: 1, bit: 0 },
+        Event::Deliver(1),
+        Event::End,
+    ];
+    assert_eq!(rt; script.events.as_slice(), expected.as_slice());
+    Ok(())
+}
+
+#[test]
 fn lines_that_say_nothing_are_skipped(rt: HostRuntime) -> Result<(), Fail> {
     let expected = [Event::Journal, Event::End];
     let texts: [&[u8]; 12] = [
@@ -122,7 +154,7 @@ fn words_that_begin_no_form(rt: HostRuntime) {
 
 #[test]
 fn lines_of_another_number_of_words(rt: HostRuntime) {
-    let texts: [&[u8]; 15] = [
+    let texts: [&[u8]; 20] = [
         b"deliver\nend\n",
         b"deliver 1 2\nend\n",
         b"damage 1\nend\n",
@@ -138,6 +170,11 @@ fn lines_of_another_number_of_words(rt: HostRuntime) {
         b"call 2 1 add\nend\n",
         b"call 2 1 add 1\nend\n",
         b"call 2 1 add 1 2 3\nend\n",
+        b"call 2 1 bump\nend\n",
+        b"call 2 1 bump 1 2\nend\n",
+        b"tick\nend\n",
+        b"tick 2\nend\n",
+        b"tick 2 1 1 1\nend\n",
     ];
     for text in texts {
         let fault = parse_script(rt.alloc(), text).err();
@@ -147,7 +184,7 @@ fn lines_of_another_number_of_words(rt: HostRuntime) {
 
 #[test]
 fn words_that_are_no_numbers(rt: HostRuntime) {
-    let texts: [&[u8]; 9] = [
+    let texts: [&[u8]; 12] = [
         b"deliver x\nend\n",
         b"deliver 01\nend\n",
         b"deliver 00\nend\n",
@@ -157,6 +194,9 @@ fn words_that_are_no_numbers(rt: HostRuntime) {
         b"deliver 0x1\nend\n",
         b"deliver 000000000000000000000000000000000001\nend\n",
         b"call 2 1 add 1 02\nend\n",
+        b"call 2 1 bump x\nend\n",
+        b"tick x 1\nend\n",
+        b"tick 2 1 01\nend\n",
     ];
     for text in texts {
         let fault = parse_script(rt.alloc(), text).err();
@@ -166,7 +206,7 @@ fn words_that_are_no_numbers(rt: HostRuntime) {
 
 #[test]
 fn numbers_out_of_range(rt: HostRuntime) {
-    let texts: [&[u8]; 15] = [
+    let texts: [&[u8]; 20] = [
         b"deliver 0\nend\n",
         b"deliver 4294967296\nend\n",
         b"deliver 18446744073709551617\nend\n",
@@ -182,6 +222,11 @@ fn numbers_out_of_range(rt: HostRuntime) {
         b"show 0\nend\n",
         b"call 2 1 add 4294967296 1\nend\n",
         b"call 2 1 add 1 4294967296\nend\n",
+        b"call 2 1 bump 4294967296\nend\n",
+        b"tick 1 1\nend\n",
+        b"tick 2 9\nend\n",
+        b"tick 2 1 0\nend\n",
+        b"tick 2 1 1001\nend\n",
     ];
     for text in texts {
         let fault = parse_script(rt.alloc(), text).err();
@@ -258,25 +303,22 @@ fn bytes_that_no_line_has(rt: HostRuntime) {
 
 #[test]
 fn forms_that_are_not_built(rt: HostRuntime) {
-    let texts: [&[u8]; 18] = [
+    let texts: [&[u8]; 15] = [
         b"pool 2 0\nend\n",
         b"second 2\nend\n",
         b"bind 2 1 main\nend\n",
-        b"tick 2 1\nend\n",
-        b"tick 2 1 1001\nend\n",
         b"export main\nend\n",
         b"withdraw main\nend\n",
         b"restart 1\nend\n",
         b"skip 2 1 1\nend\n",
         b"holders 1\nend\n",
         b"sweep\nend\n",
-        b"call 2 1 bump 1\nend\n",
         b"call 2 1 maxarg 92157\nend\n",
         b"call 2 1 maxresult 1\nend\n",
         b"call 2 1 bigarg 1\nend\n",
         b"call 2 1 bigresult 1\nend\n",
-        b"tick\nend\n",
-        b"call x y bump\nend\n",
+        b"skip\nend\n",
+        b"call x y maxarg\nend\n",
     ];
     for text in texts {
         let fault = parse_script(rt.alloc(), text).err();
@@ -286,24 +328,6 @@ fn forms_that_are_not_built(rt: HostRuntime) {
     for text in texts {
         let fault = parse_script(rt.alloc(), text).err();
         assert_eq!(rt; fault, Some(ScriptFault { line: 2, number: 9 }));
-    }
-}
-
-#[test]
-fn packets_that_a_second_line_brings(rt: HostRuntime) {
-    let texts: [&[u8]; 3] = [
-        b"deliver 1\ndeliver 1\nend\n",
-        b"deliver 1\ndamage 1 0\nend\n",
-        b"damage 7 0\ndamage 7 1\njump\n",
-    ];
-    for text in texts {
-        let fault = parse_script(rt.alloc(), text).err();
-        assert_eq!(rt; fault, Some(ScriptFault { line: 2, number: 9 }));
-    }
-    let texts: [&[u8]; 1] = [b"damage 1 0\nshow 1\ndeliver 1\nend\n"];
-    for text in texts {
-        let fault = parse_script(rt.alloc(), text).err();
-        assert_eq!(rt; fault, Some(ScriptFault { line: 3, number: 9 }));
     }
 }
 

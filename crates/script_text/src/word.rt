@@ -3,7 +3,7 @@ ghost use Rattle.std.specs.Prelude.{◌≡◌, [], ◌∷◌, MatchOption, posit
 ghost use Rattle.std.specs.List.{list_all};
 ghost use Rattle.replay_model.specs.Script.{is_blank, words_of};
 ghost use Rattle.replay_model.specs.TextFault.{is_byte_of_line};
-ghost use Rattle.script_text.specs.Words.{BeginsWithNoBlank, HasNone, HasOne, HasTwo, HasCall};
+ghost use Rattle.script_text.specs.Words.{BeginsWithNoBlank, HasNone, HasOne, HasTwo, HasTicks, HasCall};
 
 use replay_model::TextFault;
 
@@ -94,6 +94,39 @@ pub fn two_words(rest: &[u8]) -> Result<(&[u8], &[u8]), TextFault>
     };
     let other = one_word(rest)?;
     Ok((word, other))
+}
+
+/// How a line of ticks goes on behind its first word. Their number may be left out.
+#[derive(Clone, Copy)]
+pub struct TickWords<'a> {
+    pub machine: &'a [u8],
+    pub process: &'a [u8],
+    pub count: Option<&'a [u8]>,
+}
+
+/// The two or three words that stand here.
+pub fn tick_words(rest: &[u8]) -> Result<TickWords<'_>, TextFault>
+    ensures { HasTicks (words_of rest.now) result }
+{
+    let Some((machine, rest)) = first_word(rest) else {
+        return Err(TextFault::Shape);
+    };
+    let Some((process, rest)) = first_word(rest) else {
+        return Err(TextFault::Shape);
+    };
+    let Some((count, rest)) = first_word(rest) else {
+        return Ok(TickWords {
+            machine,
+            process,
+            count: None,
+        });
+    };
+    no_words(rest)?;
+    Ok(TickWords {
+        machine,
+        process,
+        count: Some(count),
+    })
 }
 
 /// How a line of a call goes on behind its first word.

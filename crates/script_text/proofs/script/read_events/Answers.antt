@@ -1,21 +1,18 @@
 -- Each line is skipped, has the first fault, or gives one more event.
 use Rattle.std.proofs.Common.{◌≡◌, ℕ, ◌<◌, ◌≤◌, ◌+◌, length, vec_len, Bor, List, ◌∷◌, Option, Ok, IfSome, inr, ap, arith, subst, sym, ◌∙◌}
-use Rattle.std.specs.List.{list_any, All}
-use Rattle.std.specs.Prelude.{nat_eq}
-use Rattle.std.proofs.lemmas.Bool.{not-true, not-false}
+use Rattle.std.specs.List.{All}
 use Rattle.std.proofs.lemmas.List.Elements.{All-nil, All-push}
 use Rattle.replay_model.specs.Script.{InRange}
 use Rattle.replay_model.specs.declared.event.Event.{Event}
-use Rattle.replay_model.specs.declared.text_fault.TextFault.TheVariants as fault
 use Rattle.script_text.specs.Lines.{lines_of_rest}
 use Rattle.script_text.specs.Reading.{ReadsLine}
-use Rattle.script_text.proofs.Walking.{counted_some, faulty, repeated, more_skipped, more_read, fault_here, refusal, nothing_read, fewer, parts_left, bytes_left}
+use Rattle.script_text.proofs.Walking.{counted_some, faulty, more_skipped, more_read, fault_here, refusal, nothing_read, fewer, parts_left, bytes_left}
 use Rattle.script_text.proofs.script.read_events.Goals as goal
 use Rattle.script_text.proofs.script.read_events.Goals.{After-read_line}
 
 pub loop-rest-init : goal.loop-rest-init
 loop-rest-init c = record {
-  so_far = nothing_read c.args.text.now c.new-events.result.items c.new-packets.result c.new-events.ensures.items (λ k. ap (list_any (nat_eq k)) c.new-packets.ensures.empty);
+  so_far = nothing_read c.args.text.now c.new-events.result.items c.new-events.ensures.items;
   few_lines = omega arith;
   few = omega arith;
   in_range = let P : List Event → Type 0 = All InRange in subst P (sym c.new-events.ensures.items) (All-nil InRange);
@@ -42,21 +39,8 @@ returns-in-Err-clause-refused c =
     let more = lines_of_rest c.first_line.result.1 in
     let first = here (goal.at.returns-in-Err-clause-refused c).After-read_line in
     let told = c.in-Err.ensures.reads r.above r.ended_is in
-    inr (refusal c.args.text.now (c.loop-rest.line + 1) c.in-Err.fault c.at-in-Err.result c.at-in-Err.ensures
+    inr (refusal c.args.text.now (c.loop-rest.line + 1) c.in-Err.fault c.at.result c.at.ensures
     (fault_here r line more first c.in-Err.fault (faulty r.above line told.0 c.in-Err.fault told.1)))
-
-pub returns-then-not-branch-clause-refused : goal.returns-then-not-branch-clause-refused
-returns-then-not-branch-clause-refused c =
-    let r = c.loop-rest.invariant.so_far in
-    let line = c.first_line.result.0.now in
-    let more = lines_of_rest c.first_line.result.1 in
-    let first = here (goal.at.returns-then-not-branch-clause-refused c).After-read_line in
-    let P : Option Event → Type 0 = λ o. ReadsLine r.above line (Ok o) in
-    let told = subst P c.in-Ok-Some.field-0-is (c.in-Ok-Some.ensures.reads r.above r.ended_is) in
-    let brings = c.in_ok-brings_new-in-Ok-Some.ensures r.above.brought r.packets_are in
-    let again = not-false _ (sym brings.0 ∙ c.if-not-branch.true) in
-    inr (refusal c.args.text.now (c.loop-rest.line + 1) fault.NotYet c.at.result c.at.ensures
-    (fault_here r line more first fault.NotYet (repeated r.above line told.0 told.1 c.in-Ok-Some.event told.2 again)))
 
 pub loop-rest-preserved-in-Ok-None : goal.loop-rest-preserved-in-Ok-None
 loop-rest-preserved-in-Ok-None c =
@@ -82,13 +66,11 @@ loop-rest-preserved c =
     let event = c.in-Ok-Some.event in
     let P : Option Event → Type 0 = λ o. ReadsLine r.above line (Ok o) in
     let told = subst P c.in-Ok-Some.field-0-is (c.in-Ok-Some.ensures.reads r.above r.ended_is) in
-    let brings = c.in_ok-brings_new-in-Ok-Some.ensures r.above.brought r.packets_are in
-    let new = not-true _ (sym brings.0 ∙ c.if-not-branch.false) in
     let Q : Option Event → Type 0 = λ o. IfSome o InRange in
     let in_range = subst Q c.in-Ok-Some.field-0-is c.in-Ok-Some.ensures.in_range in
     let fewer = counted (goal.at.loop-rest-preserved c).After-read_line in
     record {
-      so_far = rw (c.in_ok-push-in-Ok-Some.ensures.items, c.is_end-ended.ensures) (more_read r line more first told.0 told.1 event told.2 c.brings_new.new.packets new brings.1);
+      so_far = rw (c.in_ok-push-in-Ok-Some.ensures.items, c.is_end-ended.ensures) (more_read r line more first told.0 told.1 event told.2);
       few_lines = fewer.0;
       few = let pushed = c.in_ok-push-in-Ok-Some.ensures.len in rw pushed (fewer.2 (counted_some line told.0));
       in_range = rw c.in_ok-push-in-Ok-Some.ensures.items (All-push InRange c.loop-rest.events.items event c.loop-rest.invariant.in_range in_range);

@@ -7,7 +7,7 @@ use Rattle.script_text.proofs.script.read_events.Given as goal
 
 abbrev pub invariant-loop-rest : goal.invariant-loop-rest
 invariant-loop-rest l = record {
-  so_far : ReadSoFar l.fn.text l.events.items l.line l.ended l.packets (lines_of_rest l.rest);
+  so_far : ReadSoFar l.fn.text l.events.items l.line l.ended (lines_of_rest l.rest);
   few_lines : l.line + parts_left l.rest ≤ length l.fn.text + 1;
   few : vec_len l.events + bytes_left l.rest ≤ length l.fn.text;
   in_range : All InRange l.events.items;
