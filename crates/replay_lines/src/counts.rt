@@ -49,7 +49,7 @@ impl Counts {
 
     /// Counts a run of a body.
     pub fn count_run(&mut self)
-        requires { self.old.runs < 2 ^ 62 }
+        requires { self.old.runs < 2 ^ 63 }
         ensures { self.new ≡ counts_run self.old }
     {
         self.runs += 1;
@@ -57,8 +57,8 @@ impl Counts {
 
     /// Counts a call that has returned, by a signal or not.
     pub fn count_return(&mut self, signal: bool)
-        requires returned { self.old.returned < 2 ^ 62 }
-        requires signalled { self.old.signalled < 2 ^ 62 }
+        requires returned { self.old.returned < 2 ^ 63 }
+        requires signalled { self.old.signalled < 2 ^ 63 }
         ensures { self.new ≡ counts_return self.old signal }
     {
         if signal {
@@ -70,7 +70,7 @@ impl Counts {
 
     /// Counts a call that failed, since nobody answered.
     pub fn count_failure(&mut self)
-        requires { self.old.failed < 2 ^ 62 }
+        requires { self.old.failed < 2 ^ 63 }
         ensures { self.new ≡ counts_failure self.old }
     {
         self.failed += 1;
@@ -78,7 +78,7 @@ impl Counts {
 
     /// Counts a call that failed, since the server refused it.
     pub fn count_refusal(&mut self)
-        requires { self.old.refused < 2 ^ 62 }
+        requires { self.old.refused < 2 ^ 63 }
         ensures { self.new ≡ counts_refusal self.old }
     {
         self.refused += 1;

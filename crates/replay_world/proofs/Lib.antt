@@ -1,6 +1,7 @@
 pub mod Boot
-pub mod ClientSteps
+pub mod Machines
 pub mod Numbered
-pub mod PlaySteps
-pub mod ServerSteps
+pub mod Standing
+pub mod Ticking
 pub mod WorldSteps
+pub mod Zips

@@ -50,3 +50,13 @@ numbered-mapped {A} {B} f from xs n low within =
       λ y h. same_Some (f found.0) y
           (sym (slice_get-map f xs (n - from) ∙ ap (λ (o : Option A). option_map f o) found.1) ∙ (sym (cond-false _ _ _ (le-ltb n from low)) ∙ h)),
     )
+
+-- the item of this number, by its place
+pub numbered-at : {A : Type 0} (from : ℕ) (xs : List A) (n : ℕ) (x : A) → from ≤ n → slice_get xs (n - from) ≡ Some x → numbered from xs n ≡ Some x
+numbered-at {A} from xs n x low is = cond-false _ _ _ (le-ltb n from low) ∙ is
+
+-- the item that stands at a place written back
+pub set-there : {A : Type 0} (xs : List A) (k : ℕ) (x : A) → slice_get xs k ≡ Some x → set xs k x ≡ xs
+set-there {A} [] k x h = refl
+set-there {A} (y ∷ xs) zero x h = let same : x ≡ y = cc in ap (λ (z : A). z ∷ xs) same
+set-there {A} (y ∷ xs) (suc k) x h = ap (λ (zs : List A). y ∷ zs) (set-there xs k x h)

@@ -1,21 +1,33 @@
 -- What becomes of the bytes of a frame that come to a machine, as outcomes of the model.
-use Rattle.std.specs.Prelude.{◌≡◌, ◌≤◌, ℕ, [], ◌∷◌, length}
-use Rattle.rpc_header.specs.declared.Activity.{Activity}
-use Rattle.call_rules.specs.Packet.{call_of, piece_size}
-use Rattle.replay_model.specs.Record.{Readies, Hears, Returns}
-use Rattle.replay_model.specs.World.{World}
+use Rattle.std.specs.Prelude.{◌≡◌, ℕ, List, [], ◌∷◌}
+use Rattle.replay_model.specs.Record.{Readies}
+use Rattle.replay_model.specs.World.{World, Server, Client}
 use Rattle.replay_model.specs.Step.{Outcome, discarded}
+use Rattle.replay_client.specs.Client.{HearsAs}
 use Rattle.replay_world.specs.declared.delivery.Taken.{Taken}
 use Rattle.replay_world.specs.declared.delivery.Taken.TheVariants as taken
+use Rattle.replay_world.specs.Stands.{IsServer, AreClients}
 
 -- the outcome that stands for what became of packet k; w is the world after it
 abbrev pub TakenAs : World → (number : ℕ) → Taken → Outcome → Type 0
 TakenAs w k taken.Readied o = o ≡ record { world = w; acts = Readies k ∷ [] }
 TakenAs w k (taken.Dropped why) o = o ≡ discarded w why
-TakenAs w k (taken.Returned call signal reply) o =
-    (a : Activity) × (o ≡ record { world = w; acts = Hears a k ∷ Returns (record { call = call_of call; signal = signal; reply = reply.now }) ∷ [] })
+TakenAs w k (taken.Hears told) o = HearsAs w k told o
 
--- a reply is one packet's data
-abbrev pub IsShort : Taken → Type 0
-IsShort (taken.Returned call signal reply) = length reply.now ≤ piece_size
-IsShort _ = Unit {0}
+-- the same where a machine has become what it is now, over the world before
+pub record HandsToServer (now : Server) (t : Taken) (w : World) (number : ℕ) (o : Outcome) : Type 0 where
+  pub server : Server
+  pub is_server : IsServer now server
+  pub taken : TakenAs (record w { server = server }) number t o
+
+pub record HandsToClient (now : List Client) (t : Taken) (w : World) (number : ℕ) (o : Outcome) : Type 0 where
+  pub clients : List Client
+  pub are_clients : AreClients now clients
+  pub taken : TakenAs (record w { clients = clients }) number t o
+
+pub record HandsOver (server_now : Server) (clients_now : List Client) (t : Taken) (w : World) (number : ℕ) (o : Outcome) : Type 0 where
+  pub server : Server
+  pub clients : List Client
+  pub is_server : IsServer server_now server
+  pub are_clients : AreClients clients_now clients
+  pub taken : TakenAs (record w { server = server; clients = clients }) number t o

@@ -1,9 +1,4 @@
-pub mod Client
 pub mod Delivery
-pub mod Entry
 pub mod Played
-pub mod Server
-pub mod Service
 pub mod Stands
 pub mod Stored
-pub mod Worker

@@ -1,25 +1,27 @@
 -- That an outcome of the model was played on the stored world.
-use Rattle.std.specs.Prelude.{◌≡◌, ℕ, List, ◌++◌, map}
-use Rattle.call_rules.specs.Packet.{Packet}
-use Rattle.replay_model.specs.Record.{Records, counts_of, recorded_all}
+use Rattle.std.specs.Prelude.{◌≡◌, ℕ, List, [], ◌∷◌, ◌++◌, Bool, true, false}
+use Rattle.call_rules.specs.Packet.{Call}
+use Rattle.replay_model.specs.Record.{Act, Records, Cause, Fails, recorded_all}
 use Rattle.replay_model.specs.World.{World}
 use Rattle.replay_model.specs.Step.{Outcome}
 use Rattle.replay_model.specs.Lines.{lines_of}
-use Rattle.replay_model.specs.Digests.{run_digest}
-use Rattle.replay_packets.specs.Sent.{sent_of}
-use Rattle.replay_world.specs.Stored.{Stored, stored_of}
+use Rattle.replay_world.specs.Stands.{Stands}
+use Rattle.replay_world.specs.Stored.{Stored}
 
--- the model's world that has these packets and records, and else what is stored
-abbrev pub world_with : Stored → List Packet → Records → World
-world_with s bag r = record { second = s.second; server = s.server; clients = s.clients; bag = bag; records = r }
-
--- what is stored has the frames of these packets, and the digests and the counts of these records
-pub record Keeps (s : Stored) (bag : List Packet) (r : Records) : Type 0 where
-  pub frames : s.bag ≡ map sent_of bag
-  pub runs : s.runs ≡ map run_digest r.journal
-  pub counts : s.counts ≡ counts_of r
-
--- the lines of the outcome were printed, and s is stored of the world after it. r are the records before it
+-- the lines of the outcome were printed, and s stands for the world after it. r are the records before it
 pub record Plays (before after : List ℕ) (s : Stored) (r : Records) (o : Outcome) : Type 0 where
   pub printed : after ≡ before ++ lines_of o.acts
-  pub stored : s ≡ stored_of (record o.world { records = recorded_all r o.acts })
+  pub stands : Stands s (record o.world { records = recorded_all r o.acts })
+
+abbrev pub is_silent : List Act → Bool
+is_silent [] = true
+is_silent (a ∷ acts) = false
+
+-- the same of a tick, which was quiet or not
+pub record PlaysTick (quiet : Bool) (before after : List ℕ) (s : Stored) (r : Records) (o : Outcome) : Type 0 where
+  pub plays : Plays before after s r o
+  pub silent : quiet ≡ is_silent o.acts
+
+-- a call fails, for a cause
+abbrev pub fails : World → Call → Cause → Outcome
+fails w call cause = record { world = w; acts = Fails call cause ∷ [] }

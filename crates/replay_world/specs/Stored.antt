@@ -1,10 +1,10 @@
--- What the player's world stores: the model's world with the frames of its packets, and without its records, but
--- for digests of the runs and the counts.
-use Rattle.std.specs.Prelude.{ℕ, ◌+◌, ◌<◌, ◌≤◌, List, map, length}
-use Rattle.replay_model.specs.Record.{Counts, counts_of}
-use Rattle.replay_model.specs.World.{World, Server, Client}
-use Rattle.replay_model.specs.Digests.{RunDigest, run_digest}
-use Rattle.replay_packets.specs.Sent.{SentFrame, sent_of}
+-- What the player's world stores: its machines, the frames of the packets that were sent, and of the records digests of
+-- the runs and the counts.
+use Rattle.std.specs.Prelude.{ℕ, ◌+◌, ◌<◌, ◌≤◌, List, length}
+use Rattle.replay_model.specs.Record.{Counts}
+use Rattle.replay_model.specs.World.{Server, Client}
+use Rattle.replay_model.specs.Digests.{RunDigest}
+use Rattle.replay_packets.specs.Sent.{SentFrame}
 
 pub record Stored : Type 0 where
   pub second : ℕ
@@ -13,17 +13,6 @@ pub record Stored : Type 0 where
   pub bag : List SentFrame
   pub runs : List RunDigest
   pub counts : Counts
-
-abbrev pub stored_of : World → Stored
-stored_of w =
-    record {
-      second = w.second;
-      server = w.server;
-      clients = w.clients;
-      bag = map sent_of w.bag;
-      runs = map run_digest w.records.journal;
-      counts = counts_of w.records;
-    }
 
 -- the number of packets and each of the counts is below n
 abbrev pub AllBelow : (n : ℕ) → Stored → Type 0

@@ -1,12 +1,7 @@
 //! The player of scripts: its world, which steps by events and prints the lines of each.
 #![tactic(auto)]
 
-mod client;
 mod delivery;
-mod entry;
-mod server;
-mod service;
-mod worker;
 mod world;
 
 pub use replay_model::{CallWord, Event};

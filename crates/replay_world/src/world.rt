@@ -1,31 +1,28 @@
 //! The player's world.
 
-ghost use Rattle.std.specs.Prelude.{◌≡◌, ℕ, List, ◌+◌, ◌<◌, ◌≤◌, ◌^◌, [], ◌∷◌, ◌++◌, length, IfOk, OnOk};
-ghost use Rattle.call_rules.specs.Packet.{Packet};
-ghost use Rattle.replay_model.specs.Record.{Records};
+ghost use Rattle.std.specs.Prelude.{◌≡◌, ◌<◌, ◌≤◌, ◌^◌, ℕ, [], ◌++◌, IfOk, OnOk};
 ghost use Rattle.replay_model.specs.Record as act;
 ghost use Rattle.replay_model.specs.World as model;
 ghost use Rattle.replay_model.specs.Step as step;
-ghost use Rattle.replay_model.specs.Lines.{lines_of_act};
 ghost use Rattle.replay_model.specs.Transcript.{lines};
 ghost use Rattle.replay_model.specs.Script.{InRange};
-ghost use Rattle.replay_packets.specs.Sent.{sent_of};
 ghost use Rattle.replay_world.specs.Stored.{AllBelow, RoseByAtMost};
-ghost use Rattle.replay_world.specs.Stands.{Stands};
-ghost use Rattle.replay_world.specs.Played.{world_with, Keeps, Plays};
+ghost use Rattle.replay_world.specs.Stands.{Stands, AreClients};
+ghost use Rattle.replay_world.specs.Played.{Plays, PlaysTick};
 
-use crate::client::{Called, ClientMachine};
-use crate::delivery::{hand_over, tell};
-use crate::server::{ServerMachine, Worked};
-use call_rules::Did;
+mod telling;
+
+use crate::delivery::hand_over;
 use ff_io::Station;
+use replay_client::{Called, ClientMachine, Said};
 use replay_lines::{
-    Counts, RunLine, put_end, put_frame, put_idle, put_impossible, put_packet, put_runs, put_start,
-    put_too_fast, put_work,
+    Counts, put_end, put_frame, put_idle, put_impossible, put_quiet, put_runs, put_start,
+    put_too_fast,
 };
-use replay_model::limits::{CLIENTS, FIRST_CLIENT, LAST_CLIENT};
-use replay_model::{CallWord, Event};
-use replay_packets::{Outgoing, Sent};
+use replay_model::limits::{CLIENTS, FIRST_CLIENT, LARGEST_COUNT, LAST_CLIENT};
+use replay_model::{CallWord, Event, RunLine};
+use replay_packets::Sent;
+use replay_server::{ServerMachine, Worked};
 use std::alloc::{AllocError, Global};
 use std::marker::Model;
 
@@ -90,6 +87,11 @@ impl World {
                 process,
                 word,
             } => self.call(alloc, machine, process, word, out),
+            Event::Tick {
+                machine,
+                process,
+                count,
+            } => self.ticks(alloc, machine, process, count, out),
             Event::Deliver(packet) => self.deliver(alloc, packet, out),
             Event::Damage { packet, bit } => self.damage(alloc, packet, bit, out),
             Event::Show(packet) => self.show(packet, out),
@@ -110,9 +112,9 @@ impl World {
     ) -> Result<(), AllocError>
         requires machine { (FIRST_CLIENT ≤ machine) × (machine ≤ LAST_CLIENT) }
         requires process { 1 ≤ process }
-        requires few { AllBelow (2 ^ 62) self.old }
-        ensures played { (bag : List Packet) (r : Records) → Keeps self.old bag r → OnOk result (Plays out.old.items out.new.items self.new r
-            (step.call_event (world_with self.old bag r) machine process (model.numbered FIRST_CLIENT self.old.clients machine) word)) }
+        requires few { AllBelow (2 ^ 63) self.old }
+        ensures played { (w : model.World) → Stands self.old w → OnOk result (Plays out.old.items out.new.items self.new w.records
+            (step.call_event w machine process (model.numbered FIRST_CLIENT w.clients machine) word)) }
         ensures few { OnOk result (RoseByAtMost 1 self.old self.new) }
     {
         let place = usize::from(machine - FIRST_CLIENT);
@@ -124,38 +126,76 @@ impl World {
         match client.call(alloc, me, process, word, self.second)? {
             Called::Impossible => put_impossible(out),
             Called::TooFast(number) => put_too_fast(out, number, self.second),
-            Called::Starts(packet) => {
-                put_start(out, packet.header().call)?;
-                self.send(packet, out)
+            Called::Starts(told) => {
+                put_start(out, told.call)?;
+                self.tell(told, out)
             }
         }
     }
 
-    /// Sends a packet.
-    fn send(&mut self, packet: Outgoing, out: &mut Vec<u8>) -> Result<(), AllocError>
-        requires { length self.old.bag < 2 ^ 62 }
-        ensures bag { OnOk result (self.new ≡ record self.old { bag = self.old.bag ++ sent_of packet ∷ [] }) }
-        ensures printed { OnOk result (out.new.items ≡ out.old.items ++ lines_of_act (act.Sends (length self.old.bag + 1) packet)) }
+    /// So many ticks of a process pass.
+    fn ticks(
+        &mut self,
+        alloc: Global,
+        machine: u8,
+        process: u8,
+        count: u16,
+        out: &mut Vec<u8>,
+    ) -> Result<(), AllocError>
+        requires machine { (FIRST_CLIENT ≤ machine) × (machine ≤ LAST_CLIENT) }
+        requires process { 1 ≤ process }
+        requires count { count ≤ LARGEST_COUNT }
+        requires few { AllBelow (2 ^ 62) self.old }
+        ensures played { (w : model.World) → Stands self.old w → OnOk result (Plays out.old.items out.new.items self.new w.records
+            (step.tick_event w machine process count)) }
+        ensures few { OnOk result (RoseByAtMost count self.old self.new) }
     {
-        let number = self.bag.len() + 1;
-        put_packet(
-            out,
-            number,
-            packet.from().machine,
-            packet.to().machine,
-            packet.header(),
-            packet.payload_len(),
-        )?;
-        self.bag.push(packet.sent())?;
+        let mut is_quiet = true;
+        for _passed in 0..count {
+            let passed_quietly = self.tick(alloc, machine, process, out)?;
+            is_quiet = is_quiet && passed_quietly;
+        }
+        if is_quiet {
+            put_quiet(out)?;
+        }
         Ok(())
+    }
+
+    /// A tick of a process passes. Answers whether it was quiet.
+    fn tick(
+        &mut self,
+        alloc: Global,
+        machine: u8,
+        process: u8,
+        out: &mut Vec<u8>,
+    ) -> Result<bool, AllocError>
+        requires machine { (FIRST_CLIENT ≤ machine) × (machine ≤ LAST_CLIENT) }
+        requires process { 1 ≤ process }
+        requires few { AllBelow (2 ^ 63) self.old }
+        ensures played { (w : model.World) → Stands self.old w
+            → IfOk result (λ is_quiet. PlaysTick is_quiet out.old.items out.new.items self.new w.records (step.tick w machine process)) }
+        ensures few { OnOk result (RoseByAtMost 1 self.old self.new) }
+    {
+        let place = usize::from(machine - FIRST_CLIENT);
+        if place >= self.clients.len() {
+            return Ok(true);
+        }
+        let client = &mut self.clients[place];
+        let me = Station { machine };
+        let Some(told) = client.tick(alloc, me, process)? else {
+            return Ok(true);
+        };
+        let is_quiet = matches!(told.said, Said::Nothing);
+        self.tell(told, out)?;
+        Ok(is_quiet)
     }
 
     /// A packet comes to its receiver.
     fn deliver(&mut self, alloc: Global, number: u32, out: &mut Vec<u8>) -> Result<(), AllocError>
         requires number { 1 ≤ number }
-        requires few { AllBelow (2 ^ 62) self.old }
-        ensures played { (bag : List Packet) (r : Records) → Keeps self.old bag r → OnOk result (Plays out.old.items out.new.items self.new r
-            (step.deliver_event (world_with self.old bag r) number (model.packet_at bag number))) }
+        requires few { AllBelow (2 ^ 63) self.old }
+        ensures played { (w : model.World) → Stands self.old w → OnOk result (Plays out.old.items out.new.items self.new w.records
+            (step.deliver_event w number (model.packet_at w.bag number))) }
         ensures few { OnOk result (RoseByAtMost 1 self.old self.new) }
     {
         let place = number as usize - 1;
@@ -170,7 +210,7 @@ impl World {
             sent.to(),
             sent.frame(),
         )?;
-        tell(&mut self.counts, number, taken, out)
+        self.tell_delivery(number, taken, out)
     }
 
     /// A packet comes to its receiver with one bit of its frame flipped.
@@ -182,9 +222,9 @@ impl World {
         out: &mut Vec<u8>,
     ) -> Result<(), AllocError>
         requires number { 1 ≤ number }
-        requires few { AllBelow (2 ^ 62) self.old }
-        ensures played { (bag : List Packet) (r : Records) → Keeps self.old bag r → OnOk result (Plays out.old.items out.new.items self.new r
-            (step.damage_event (world_with self.old bag r) number bit (model.packet_at bag number))) }
+        requires few { AllBelow (2 ^ 63) self.old }
+        ensures played { (w : model.World) → Stands self.old w → OnOk result (Plays out.old.items out.new.items self.new w.records
+            (step.damage_event w number bit (model.packet_at w.bag number))) }
         ensures few { OnOk result (RoseByAtMost 1 self.old self.new) }
     {
         let place = number as usize - 1;
@@ -202,14 +242,14 @@ impl World {
             sent.to(),
             frame.as_slice(),
         )?;
-        tell(&mut self.counts, number, taken, out)
+        self.tell_delivery(number, taken, out)
     }
 
     /// The frame of a packet is printed.
     fn show(&self, number: u32, out: &mut Vec<u8>) -> Result<(), AllocError>
         requires number { 1 ≤ number }
-        ensures { (bag : List Packet) (r : Records) → Keeps self.now bag r → OnOk result (Plays out.old.items out.new.items self.now r
-            (step.show_event (world_with self.now bag r) number (model.packet_at bag number))) }
+        ensures { (w : model.World) → Stands self.now w → OnOk result (Plays out.old.items out.new.items self.now w.records
+            (step.show_event w number (model.packet_at w.bag number))) }
     {
         let place = number as usize - 1;
         if place >= self.bag.len() {
@@ -221,32 +261,22 @@ impl World {
     /// One step of a worker.
     fn work(&mut self, alloc: Global, worker: u8, out: &mut Vec<u8>) -> Result<(), AllocError>
         requires worker { 1 ≤ worker }
-        requires few { AllBelow (2 ^ 62) self.old }
-        ensures played { (bag : List Packet) (r : Records) → Keeps self.old bag r → OnOk result (Plays out.old.items out.new.items self.new r
-            (step.work_event (world_with self.old bag r) worker (model.numbered 1 self.old.server.workers worker))) }
+        requires few { AllBelow (2 ^ 63) self.old }
+        ensures played { (w : model.World) → Stands self.old w → OnOk result (Plays out.old.items out.new.items self.new w.records
+            (step.work_event w worker (model.numbered 1 w.server.workers worker))) }
         ensures few { OnOk result (RoseByAtMost 1 self.old self.new) }
     {
         match self.server.work(alloc, worker)? {
             Worked::Impossible => put_impossible(out),
             Worked::Idle => put_idle(out, worker),
-            Worked::Step { number, did } => put_work(out, worker, number, did),
-            Worked::Runs(line) => {
-                put_work(out, worker, line.call.number.value, Did::Runs)?;
-                self.counts.count_run();
-                self.runs.push(line)?;
-                Ok(())
-            }
-            Worked::Replies(packet) => {
-                put_work(out, worker, packet.header().call.number.value, Did::Replies)?;
-                self.send(packet, out)
-            }
+            Worked::Step(stepped) => self.tell_step(worker, stepped, out),
         }
     }
 }
 
 /// The clients of a new world.
 fn boot_clients(alloc: Global) -> Result<Vec<ClientMachine>, AllocError>
-    ensures { IfOk result (λ clients. (small long : ℕ) → clients.items ≡ (model.first_world small long).clients) }
+    ensures { IfOk result (λ clients. (small long : ℕ) → AreClients clients.items (model.first_world small long).clients) }
 {
     let mut clients = Vec::new(alloc);
     for place in 0..CLIENTS {

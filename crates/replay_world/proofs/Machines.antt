@@ -1,0 +1,71 @@
+-- What the machines' clauses say over a world for whose machines they stand.
+use Rattle.std.proofs.Common.{◌≡◌, ℕ, Option, Some, None, subst, refl, ◌∙◌}
+use Rattle.call_rules.specs.Packet.{Packet}
+use Rattle.replay_model.specs.declared.event.CallWord.{CallWord}
+use Rattle.replay_model.specs.World.{World, Server, Client, numbered}
+use Rattle.replay_model.specs.Step.{work_event, call_by, client_takes, ticks_line}
+use Rattle.replay_server.specs.declared.step.Worked.{Worked}
+use Rattle.replay_server.specs.Stepped.{WorksAs, KeepsIdle}
+use Rattle.replay_client.specs.declared.line.Took.{Took}
+use Rattle.replay_client.specs.declared.machine.Called.{Called}
+use Rattle.replay_client.specs.declared.told.Told.{Told}
+use Rattle.replay_client.specs.Client.{CallsAs, KeepsImpossible, TookAs, KeepsDropped, TicksAs}
+use Rattle.replay_world.specs.Stands.{IsServer, IsClient}
+
+-- a worker has stepped, and the machine stands for this server
+pub record Worker (w : World) (who : ℕ) (now : Server) (worked : Worked) : Type 0 where
+  pub server : Server
+  pub is_server : IsServer now server
+  pub outcome : WorksAs w who server worked (work_event w who (numbered 1 w.server.workers who))
+  pub idle : KeepsIdle worked w.server server
+
+pub worker_in : (w : World) (who : ℕ) (old now : Server) (worked : Worked) → IsServer old w.server
+    → ((v : World) → WorksAs (record v { server = old }) who now worked (work_event (record v { server = old }) who (numbered 1 old.workers who))) → KeepsIdle worked old now
+    → Worker w who now worked
+worker_in w who old now worked is told idle =
+    let P : Server → Type 0 = λ s. WorksAs (record w { server = s }) who now worked (work_event (record w { server = s }) who (numbered 1 s.workers who)) in
+    let Q : Server → Type 0 = λ s. KeepsIdle worked s now in
+    record { server = now; is_server = refl; outcome = subst P is (told w); idle = subst Q is idle }
+
+-- a client has been asked for a call, and the machine stands for this one
+pub record Asked (w : World) (machine process : ℕ) (c now : Client) (asked : CallWord) (called : Called) : Type 0 where
+  pub client : Client
+  pub is_client : IsClient now client
+  pub outcome : CallsAs w machine client called (call_by w machine process c (numbered 1 c.lines process) asked)
+  pub impossible : KeepsImpossible called c client
+
+pub asked_in : (w : World) (second machine process : ℕ) (c old now : Client) (asked : CallWord) (called : Called) → second ≡ w.second → IsClient old c
+    → ((v : World) → CallsAs (record v { second = second }) machine now called (call_by (record v { second = second }) machine process old (numbered 1 old.lines process) asked))
+    → KeepsImpossible called old now → Asked w machine process c now asked called
+asked_in w second machine process c old now asked called at is told impossible =
+    let T : ℕ → Type 0 = λ n. CallsAs (record w { second = n }) machine now called (call_by (record w { second = n }) machine process old (numbered 1 old.lines process) asked) in
+    let P : Client → Type 0 = λ x. CallsAs w machine now called (call_by w machine process x (numbered 1 x.lines process) asked) in
+    let Q : Client → Type 0 = λ x. KeepsImpossible called x now in
+    record { client = now; is_client = refl; outcome = subst P is (subst T at (told w)); impossible = subst Q is impossible }
+
+-- a packet has come to a client
+pub record Heard (w : World) (k : ℕ) (p : Packet) (c now : Client) (took : Took) : Type 0 where
+  pub client : Client
+  pub is_client : IsClient now client
+  pub outcome : TookAs w k p client took (client_takes w k p (Some c))
+  pub dropped : KeepsDropped took c client
+
+pub heard_in : (w : World) (k : ℕ) (p : Packet) (c old now : Client) (took : Took) → IsClient old c
+    → ((v : World) (n : ℕ) → TookAs v n p now took (client_takes v n p (Some old))) → KeepsDropped took old now → Heard w k p c now took
+heard_in w k p c old now took is told dropped =
+    let P : Client → Type 0 = λ x. TookAs w k p now took (client_takes w k p (Some x)) in
+    let Q : Client → Type 0 = λ x. KeepsDropped took x now in
+    record { client = now; is_client = refl; outcome = subst P is (told w k); dropped = subst Q is dropped }
+
+-- a process of a client has had a tick
+pub record Ticked (w : World) (machine process : ℕ) (c now : Client) (told : Option Told) : Type 0 where
+  pub client : Client
+  pub is_client : IsClient now client
+  pub outcome : TicksAs w machine client told (ticks_line w machine process c (numbered 1 c.lines process))
+  pub nobody : told ≡ None → client ≡ c
+
+pub ticked_in : (w : World) (machine process : ℕ) (c old now : Client) (told : Option Told) → IsClient old c
+    → ((v : World) → TicksAs v machine now told (ticks_line v machine process old (numbered 1 old.lines process))) → (told ≡ None → now ≡ old) → Ticked w machine process c now told
+ticked_in w machine process c old now told is by nobody =
+    let P : Client → Type 0 = λ x. TicksAs w machine now told (ticks_line w machine process x (numbered 1 x.lines process)) in
+    record { client = now; is_client = refl; outcome = subst P is (by w); nobody = λ none. nobody none ∙ is }
