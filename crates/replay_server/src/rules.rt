@@ -50,10 +50,30 @@ pub fn on_idle(
     ensures { IfOk result (λ step. (e : Option Entry) → option_map word_of e ≡ option_map word_seen seen
         → Keeps (rules.on_idle (asked_of exports.now.rows packet) e packet) step) }
 {
-    if packet.header().kind == Kind::Bind {
-        on_bind(alloc, exports, packet)
-    } else {
-        on_call(alloc, exports, seen, packet)
+    let kind = packet.header().kind;
+    on_kind(alloc, kind, exports, seen, packet)
+}
+
+/// The same, by the packet's kind.
+fn on_kind(
+    alloc: Global,
+    kind: Kind,
+    exports: &Exports,
+    seen: Option<Seen>,
+    packet: Packet,
+) -> Result<Step, AllocError>
+    ensures { IfOk result (λ step. (e : Option Entry) → option_map word_of e ≡ option_map word_seen seen
+        → Keeps (rules.on_kind kind (asked_of exports.now.rows packet) e packet) step) }
+{
+    match kind {
+        Kind::Bind => on_bind(alloc, exports, packet),
+        Kind::Call
+        | Kind::Result
+        | Kind::Ack
+        | Kind::Probe
+        | Kind::Reject
+        | Kind::Signal
+        | Kind::Bound => on_call(alloc, exports, seen, packet),
     }
 }
 
@@ -258,6 +278,7 @@ fn on_fetch(carrier: Packet, entry: &mut Entry) -> Step
 }
 
 /// Took: the carrier's piece is compared with the one that is due.
+#[tactic(auto, unfolding(call_rules::specs::Worker::on_took))]
 fn on_took(alloc: Global, carrier: Packet, entry: &mut Entry) -> Result<Step, AllocError>
     ensures { IfOk result (Exchanges (rules.on_took carrier entry.old) entry.old entry.new) }
 {
@@ -315,6 +336,7 @@ fn on_other(
 }
 
 /// Admitted: the body runs.
+#[tactic(auto, unfolding(call_rules::specs::Worker::on_admitted))]
 fn on_admitted(
     alloc: Global,
     total: &mut u32,
@@ -349,6 +371,7 @@ fn on_admitted(
 }
 
 /// Ran: the first piece of the reply is sent, and the entry keeps the reply.
+#[tactic(auto, unfolding(call_rules::specs::Worker::on_ran))]
 fn on_ran(
     alloc: Global,
     carrier: Packet,
@@ -364,6 +387,7 @@ fn on_ran(
 }
 
 /// Fetched: the piece that is asked for is sent, if there is one.
+#[tactic(auto, unfolding(call_rules::specs::Worker::on_fetched))]
 fn on_fetched(alloc: Global, carrier: Packet, entry: &mut Entry) -> Result<Step, AllocError>
     ensures { IfOk result (Exchanges (rules.on_fetched carrier entry.old) entry.old entry.new) }
 {
