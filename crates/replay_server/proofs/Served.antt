@@ -1,8 +1,9 @@
 -- What a worker's step makes of the server.
-use Rattle.std.proofs.Common.{◌≡◌, ℕ, ◌+◌, ◌-◌, List, [], ◌∷◌, Option, Some, None, Bool, true, false, cond, set, ap, sym, subst, ◌∙◌, refl, arith}
+use Rattle.std.proofs.Common.{◌≡◌, ℕ, ◌+◌, ◌-◌, ◌≤◌, List, [], ◌∷◌, length, Option, Some, None, Bool, true, false, cond, set, ap, sym, subst, ◌∙◌, refl, arith}
 use Rattle.std.specs.Prelude.{unwrap_or, slice_get}
 use Rattle.std.proofs.lemmas.List.{set-set, set-get_or}
-use Rattle.std.proofs.lemmas.Option.{unwrap_or-slice_get}
+use Rattle.std.proofs.lemmas.Bool.{le-ltb, cond-false}
+use Rattle.std.proofs.lemmas.Option.{slice_get_past, unwrap_or-slice_get}
 use Rattle.rpc_header.specs.declared.Activity.{Activity}
 use Rattle.rpc_header.specs.declared.CallNumber.{CallNumber}
 use Rattle.call_rules.specs.Packet.{Packet}
@@ -10,15 +11,16 @@ use Rattle.call_rules.specs.Entry.{Entry, Empty}
 use Rattle.call_rules.specs.declared.worker.Did.{Did}
 use Rattle.call_rules.specs.Worker.{on_idle}
 use Rattle.call_rules.specs.Worker as rules
-use Rattle.replay_model.specs.Record.{Works}
-use Rattle.replay_model.specs.World.{World, Server, is_entry_activity, entry_place, entry_at, with_entry}
-use Rattle.replay_model.specs.Step.{Outcome, adds, asked_of, exchanged, entry_of, works, work_event, claims_next}
+use Rattle.replay_model.specs.Record.{Idles, Works}
+use Rattle.replay_model.specs.World.{World, Server, numbered, is_entry_activity, entry_place, entry_at, with_entry}
+use Rattle.replay_model.specs.Step.{Outcome, impossible, adds, asked_of, exchanged, entry_of, works, work_event, claims_next}
 use Rattle.replay_server.specs.declared.rules.Step.{Step}
 use Rattle.replay_server.specs.declared.step.Stepped.{Stepped}
+use Rattle.replay_server.specs.declared.step.Worked.{Worked}
 use Rattle.replay_server.specs.declared.worker.Stage.{Stage}
 use Rattle.replay_server.specs.declared.worker.Stage.TheVariants as stage
 use Rattle.replay_server.specs.Rules.{Keeps, Exchanges, row_at, total_at}
-use Rattle.replay_server.specs.Stepped.{StandsFor, StepsAs}
+use Rattle.replay_server.specs.Stepped.{StandsFor, StepsAs, WorksAs}
 use Rattle.replay_server.specs.Worker.{worker_at}
 use Rattle.replay_server.proofs.Rows.{exchanges_as}
 
@@ -112,3 +114,63 @@ claims w s0 s1 s2 j p rest t step n number ready without made total settled =
     ∙ ap (λ (o : Option Entry). record s0 { ready = rest; workers = set s0.workers j row.worker; entries = exchanged s0.entries p.header.call.activity o }) (sym h.entry)))) in
     let P : List Packet → Type 0 = λ ps. StepsAs (record w { server = s0 }) (j + 1) s2 x (claims_next (record w { server = s0 }) (j + 1) ps) in
     subst P (sym ready) (steps_at (record w { server = s0 }) (record s0 { ready = rest }) s2 j p row x server number h.did h.adds)
+
+-- nothing is ready
+pub claims_none : (w : World) (who : ℕ) (ready : List Packet) → ready ≡ [] → claims_next w who ready ≡ record { world = w; acts = Idles who ∷ [] }
+unfolding claims_next
+claims_none w who ready h = ap (claims_next w who) h
+
+-- the worker of a number, by its place
+worker_in : (ws : List rules.Worker) (who j : ℕ) → 1 ≤ who → j ≡ who - 1 → numbered 1 ws who ≡ slice_get ws j
+worker_in ws who j low place = cond-false _ _ _ (le-ltb who 1 low) ∙ ap (slice_get ws) (sym place)
+
+-- there is no worker of this number
+pub no_worker : (w : World) (ws : List rules.Worker) (who j : ℕ) → 1 ≤ who → j ≡ who - 1 → length ws ≤ j → work_event w who (numbered 1 ws who) ≡ impossible w
+unfolding work_event
+no_worker w ws who j low place past = ap (work_event w who) (worker_in ws who j low place ∙ slice_get_past ws j past)
+
+-- a worker written over an idle one
+over_idle : (ws : List rules.Worker) (j : ℕ) (x : rules.Worker) → set (set ws j rules.Resting) (j + 1 - 1) x ≡ set ws (j + 1 - 1) x
+over_idle ws j x =
+    ap (λ (i : ℕ). set (set ws j rules.Resting) i x) (back j) ∙ (set-set ws j rules.Resting x ∙ ap (λ (i : ℕ). set ws i x) (sym (back j)))
+
+-- the step of a worker whose task was taken out is that of the worker
+idle_meanwhile : (w : World) (s : Server) (j : ℕ) (p : Packet) (st : Stage) → work_event (record w { server = record s { workers = set s.workers j rules.Resting } }) (j + 1) (Some (worker_at p st)) ≡ work_event (record w { server = s }) (j + 1) (Some (worker_at p st))
+unfolding works
+idle_meanwhile w s j p st =
+    let row : rules.Step = row_at p st s.total (entry_of (record w { server = s }) p) in
+    event_at (record w { server = record s { workers = set s.workers j rules.Resting } }) (j + 1) p st
+    ∙ (ap (λ (ws : List rules.Worker). adds (record w { server = record s { workers = ws; total = total_at p st s.total; entries = exchanged s.entries p.header.call.activity row.entry } }) (Works (j + 1) p.header.call.number row.did) row.adds) (over_idle s.workers j row.worker)
+    ∙ sym (event_at (record w { server = s }) (j + 1) p st))
+
+-- a worker that held a packet has done its step: s1 is the server with the worker idle
+pub task_works : (w : World) (s0 s1 s2 : Server) (who j : ℕ) (p : Packet) (st : Stage) (x : Stepped) → 1 ≤ who → j ≡ who - 1 → slice_get s0.workers j ≡ Some (worker_at p st) → s1 ≡ record s0 { workers = set s0.workers j rules.Resting } → StepsAs (record w { server = s0 }) (j + 1) s2 x (work_event (record w { server = s1 }) (j + 1) (Some (worker_at p st))) → StepsAs (record w { server = s0 }) who s2 x (work_event (record w { server = s0 }) who (numbered 1 s0.workers who))
+task_works w s0 s1 s2 who j p st x low place worker idle h =
+    let w' : World = record w { server = s0 } in
+    let was : (work_event (record w { server = s1 }) (j + 1) (Some (worker_at p st))) ≡ work_event w' (j + 1) (Some (worker_at p st)) =
+    ap (λ (s : Server). work_event (record w { server = s }) (j + 1) (Some (worker_at p st))) idle ∙ idle_meanwhile w s0 j p st in
+    let P : ℕ → Option rules.Worker → Type 0 = λ i o. StepsAs w' i s2 x (work_event w' i o) in
+    let number : j + 1 ≡ who = omega arith in
+    subst (λ (i : ℕ). P i (numbered 1 s0.workers who)) number
+    (subst (P (j + 1)) (sym (worker_in s0.workers who j low place ∙ worker)) (subst (StepsAs w' (j + 1) s2 x) was h))
+
+-- an item written over itself
+set-same : {A : Type 0} (xs : List A) (i : ℕ) (x : A) → slice_get xs i ≡ Some x → set xs i x ≡ xs
+set-same {A} xs i x h =
+    ap (λ (y : A). set xs i y) (sym (ap (λ (o : Option A). unwrap_or o x) h) ∙ unwrap_or-slice_get xs i x) ∙ set-get_or xs i x
+
+-- an idle worker whose task was taken out is as it was
+pub idle_as_before : (s0 s1 : Server) (j : ℕ) → slice_get s0.workers j ≡ Some rules.Resting → s1 ≡ record s0 { workers = set s0.workers j rules.Resting } → s1 ≡ s0
+idle_as_before s0 s1 j worker idle =
+    idle ∙ ap (λ (ws : List rules.Worker). record s0 { workers = ws }) (set-same s0.workers j rules.Resting worker)
+
+-- an idle worker has done its step
+pub idle_works : (r : Worked) (w : World) (s0 s1 s2 : Server) (who j : ℕ) → 1 ≤ who → j ≡ who - 1 → slice_get s0.workers j ≡ Some rules.Resting → s1 ≡ s0 → WorksAs (record w { server = s1 }) (j + 1) s2 r (claims_next (record w { server = s1 }) (j + 1) s1.ready) → WorksAs (record w { server = s0 }) who s2 r (work_event (record w { server = s0 }) who (numbered 1 s0.workers who))
+unfolding work_event
+idle_works r w s0 s1 s2 who j low place worker same h =
+    let w' : World = record w { server = s0 } in
+    let number : j + 1 ≡ who = omega arith in
+    let P : ℕ → Option rules.Worker → Type 0 = λ i o. WorksAs w' i s2 r (work_event w' i o) in
+    subst (λ (i : ℕ). P i (numbered 1 s0.workers who)) number
+    (subst (P (j + 1)) (sym (worker_in s0.workers who j low place ∙ worker))
+    (subst (λ (s : Server). WorksAs (record w { server = s }) (j + 1) s2 r (claims_next (record w { server = s }) (j + 1) s.ready)) same h))

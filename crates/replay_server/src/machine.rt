@@ -15,7 +15,7 @@ use crate::entry::Entry;
 use crate::rules::{Step, on_idle, on_task};
 use crate::step::{Stepped, Worked};
 use crate::worker::{Task, Worker};
-use binder::{ExportFault, Exports, InterfaceName, read_name};
+use binder::{Exports, InterfaceName, read_name};
 use call_rules::Seen;
 use replay_model::limits::{
     CLIENTS, FIRST_CLIENT, LAST_CLIENT, LAST_PROCESS, LAST_WORKER, READY_CELLS,
@@ -249,10 +249,8 @@ fn boot_exports(alloc: Global, boot: u32) -> Result<Exports, AllocError>
     let mut exports = Exports::boot(boot);
     match exports.export(alloc, main_name(), SERVICE_PROCEDURES, boot) {
         Ok(_) => Ok(exports),
-        Err(ExportFault::Memory) => Err(AllocError),
-        Err(ExportFault::Exists | ExportFault::Full | ExportFault::TooFast { .. }) => {
-            unreachable!()
-        }
+        // Nothing is exported yet, so no other fault can come.
+        Err(_) => Err(AllocError),
     }
 }
 
