@@ -10,7 +10,7 @@ use Rattle.call_rules.specs.declared.worker.Unfit.TheVariants as unfit
 use Rattle.call_rules.specs.Worker.{Asked, admits, on_due, drops, on_idle, on_kind, on_claimed, on_judged_claim}
 use Rattle.call_rules.specs.Worker as rules
 use Rattle.replay_server.specs.Rules.{Keeps, Exchanges}
-use Rattle.replay_server.specs.declared.rules.Step.{Step}
+use Rattle.replay_server.specs.declared.step.Step.{Step}
 
 pub keeps_as : (a b : rules.Step) (step : Step) → a ≡ b → Keeps a step → Keeps b step
 keeps_as a b step e h = subst (λ (row : rules.Step). Keeps row step) e h

@@ -14,7 +14,7 @@ use Rattle.call_rules.specs.Worker as rules
 use Rattle.replay_model.specs.Record.{Idles, Works}
 use Rattle.replay_model.specs.World.{World, Server, numbered, is_entry_activity, entry_place, entry_at, with_entry}
 use Rattle.replay_model.specs.Step.{Outcome, impossible, adds, asked_of, exchanged, entry_of, works, work_event, claims_next}
-use Rattle.replay_server.specs.declared.rules.Step.{Step}
+use Rattle.replay_server.specs.declared.step.Step.{Step}
 use Rattle.replay_server.specs.declared.step.Stepped.{Stepped}
 use Rattle.replay_server.specs.declared.step.Worked.{Worked}
 use Rattle.replay_server.specs.declared.worker.Stage.{Stage}

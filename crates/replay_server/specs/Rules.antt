@@ -5,7 +5,7 @@ use Rattle.call_rules.specs.Entry.{Entry, word_seen}
 use Rattle.call_rules.specs.Worker as rules
 use Rattle.replay_model.specs.Service.{served}
 use Rattle.replay_model.specs.World.{has_buffer}
-use Rattle.replay_server.specs.declared.rules.Step.{Step}
+use Rattle.replay_server.specs.declared.step.Step.{Step}
 use Rattle.replay_server.specs.declared.worker.Stage.{Stage}
 use Rattle.replay_server.specs.declared.worker.Stage.TheVariants as stage
 use Rattle.replay_server.specs.Service.{answer_of}

@@ -5,12 +5,20 @@
 
 mod answers;
 mod entry;
+mod idle_rules;
 mod machine;
-mod rules;
 mod service;
 mod step;
+mod task_rules;
 mod texts;
 mod worker;
 
 pub use machine::ServerMachine;
 pub use step::{Adds, Stepped, Worked};
+
+#[cfg(test)]
+mod row_tests;
+#[cfg(test)]
+mod tests;
+#[cfg(test)]
+mod trial;

@@ -12,8 +12,9 @@ ghost use Rattle.replay_model.specs.World.{World, numbered};
 ghost use Rattle.replay_model.specs.Step as step;
 
 use crate::entry::Entry;
-use crate::rules::{Step, on_idle, on_task};
-use crate::step::{Stepped, Worked};
+use crate::idle_rules::on_idle;
+use crate::step::{Step, Stepped, Worked};
+use crate::task_rules::on_task;
 use crate::worker::{Task, Worker};
 use binder::{Exports, InterfaceName, read_name};
 use call_rules::Seen;

@@ -4,7 +4,7 @@ use Rattle.call_rules.specs.Packet.{Fields}
 use Rattle.call_rules.specs.Entry.{Word, word_seen, is_same_word, judge}
 use Rattle.replay_model.specs.World.{has_buffer}
 use Rattle.replay_server.proofs.Rows.{exchanges_as, keeps_entry, claim_lost, claim_judged}
-use Rattle.replay_server.proofs.rules.on_claimed.Goals as goal
+use Rattle.replay_server.proofs.task_rules.on_claimed.Goals as goal
 
 pub returns-then-not-is_same : goal.returns-then-not-is_same
 returns-then-not-is_same c =

@@ -6,9 +6,9 @@ use Rattle.call_rules.specs.Entry.{Entry, word_of, word_seen}
 use Rattle.call_rules.specs.Worker.{on_kind}
 use Rattle.replay_model.specs.Step.{asked_of}
 use Rattle.replay_server.specs.Rules.{Keeps}
-use Rattle.replay_server.specs.declared.rules.Step.{Step}
+use Rattle.replay_server.specs.declared.step.Step.{Step}
 use Rattle.replay_server.proofs.Rows.{keeps_as, idle_as}
-use Rattle.replay_server.proofs.rules.on_idle.Goals as goal
+use Rattle.replay_server.proofs.idle_rules.on_idle.Goals as goal
 
 pub returns : goal.returns
 returns c =

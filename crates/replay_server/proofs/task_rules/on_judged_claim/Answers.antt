@@ -3,7 +3,7 @@ use Rattle.call_rules.specs.declared.entry.Judged.{Judged}
 use Rattle.call_rules.specs.Worker.{on_judged_claim}
 use Rattle.replay_model.specs.World.{has_buffer}
 use Rattle.replay_server.proofs.Rows.{exchanges_as}
-use Rattle.replay_server.proofs.rules.on_judged_claim.Goals as goal
+use Rattle.replay_server.proofs.task_rules.on_judged_claim.Goals as goal
 
 pub returns-in-Admit : goal.returns-in-Admit
 returns-in-Admit c =

@@ -1,7 +1,7 @@
 use Rattle.std.proofs.Common.{ap, sym, ◌∙◌}
 use Rattle.call_rules.specs.Packet.{Fields}
 use Rattle.replay_server.proofs.Rows.{exchanges_as, due_last}
-use Rattle.replay_server.proofs.rules.on_due.Goals as goal
+use Rattle.replay_server.proofs.task_rules.on_due.Goals as goal
 
 pub returns-then-header : goal.returns-then-header
 returns-then-header c =
