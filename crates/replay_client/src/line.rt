@@ -5,7 +5,7 @@ ghost use Rattle.lane_checksum.specs.Digests.{digest};
 ghost use Rattle.rpc_header.specs.Spelling.{HasSpelling};
 ghost use Rattle.fragments.specs.Pieces.{last_piece};
 ghost use Rattle.call_rules.specs.Caller as rules;
-ghost use Rattle.call_rules.specs.Packet.{Call, fields_of};
+ghost use Rattle.call_rules.specs.Packet.{call_of, fields_of};
 ghost use Rattle.replay_model.specs.World as model;
 ghost use Rattle.replay_model.specs.Process as process;
 ghost use Rattle.replay_model.specs.Step as step;
@@ -155,12 +155,13 @@ impl ClientLine {
             return Ok(Took::Dropped(Discard::Stale));
         }
         let task = self.task();
-        let action = self.caller.on_packet(&packet.header);
-        if matches!(action, Action::Unused) {
-            return Ok(Took::Dropped(Discard::Unused));
+        match self.caller.on_packet(&packet.header) {
+            Action::Unused => Ok(Took::Dropped(Discard::Unused)),
+            action => {
+                let told = self.act(alloc, packet.to, task, action, packet.payload)?;
+                Ok(Took::Hears(told))
+            }
         }
-        let told = self.act(alloc, packet.to, task, action, packet.payload)?;
-        Ok(Took::Hears(told))
     }
 
     /// Has a tick. `Err` only where memory is short.
@@ -201,7 +202,8 @@ impl ClientLine {
         bytes: &[u8],
     ) -> Result<Told, AllocError>
         requires { CanTell self.old.caller self.old.arguments self.old.kept (act_of action) bytes.now }
-        ensures { (before : rules.Caller) → CameFrom before self.old.caller (act_of action) (is_bind task)
+        ensures call { IfOk result (λ told. call_of told.call ≡ rules.current_call self.old.caller) }
+        ensures step { (before : rules.Caller) → CameFrom before self.old.caller (act_of action) (is_bind task)
             → IfOk result (λ told. StepsAs self.new told
             (process.on_act me.machine (record self.old { caller = before }) self.old.caller (act_of action) bytes.now)) }
     {
