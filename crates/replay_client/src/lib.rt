@@ -11,7 +11,10 @@ mod task;
 mod told;
 mod words;
 
-pub use line::{ClientLine, Took};
+pub use line::Took;
 pub use machine::{Called, ClientMachine};
 pub use told::{Cause, Said, Told};
 pub use words::{arguments_of, procedure_of};
+
+#[cfg(test)]
+mod tests;

@@ -34,7 +34,7 @@ const NUMBERS_A_SECOND: u64 = 1 << 16;
 /// A process that makes calls: its caller, the number of its next call, its binding, the arguments of its call
 /// (or the data of its bind), and what it has kept of a reply. Contracts see it as the line of `replay_model`.
 #[derive(Drop)]
-pub struct ClientLine {
+pub(crate) struct ClientLine {
     caller: Caller,
     next: u64,
     binding: Export,
@@ -313,3 +313,6 @@ impl ClientLine {
         self.kept.clear();
     }
 }
+
+#[cfg(test)]
+mod tests;
