@@ -370,13 +370,13 @@ fn a_bind_that_is_answered_changes_the_binding(rt: HostRuntime) -> Result<(), Fa
     let alloc = rt.alloc();
     let mut line = binding(alloc);
     take(&mut line, alloc, packet(Kind::Bound, 0), &[])?;
-    let told = line.call(
-        alloc,
-        CLIENT,
-        CallNumber { value: 65536 },
-        0,
-        Vec::new(alloc),
-    )?;
+    let Some(number) = line.next_number(1) else {
+        return Err("a call number".into());
+    };
+    if !line.is_idle() {
+        return Err("an idle process".into());
+    }
+    let told = line.call(alloc, CLIENT, number, 0, Vec::new(alloc))?;
     let Said::Sends(packet) = told.said else {
         return Err("a packet".into());
     };
