@@ -29,6 +29,8 @@ fn words_of<R: Env + AllocGlobal>(rt: &R) -> io::Result<Vec<String>> {
 }
 
 #[cfg(test)]
+mod loss_rows;
+#[cfg(test)]
 mod rows;
 #[cfg(test)]
 mod stream_tests;

@@ -6,7 +6,7 @@ use std::alloc::Global;
 use std::test::Fail;
 
 /// Whether the script is played to its end and prints this.
-fn prints(alloc: Global, script: &[u8], transcript: &[u8]) -> Result<bool, Fail> {
+pub fn prints(alloc: Global, script: &[u8], transcript: &[u8]) -> Result<bool, Fail> {
     let (status, written) = ran(alloc, &["replay"], &never_failing(script))?;
     Ok(status == Status::Ok && written.as_slice() == transcript)
 }

@@ -152,7 +152,7 @@ fn a_text_is_refused_at_its_first_fault(rt: HostRuntime) -> Result<(), Fail> {
         (b"end\njournal\n", "fault BadText 2 6\n"),
         (b"deliver 01\nend\n", "fault BadText 1 3\n"),
         (b"call 2 9 null\nend\n", "fault BadText 1 4\n"),
-        (b"deliver 1\ndeliver 1\nend\n", "fault BadText 2 9\n"),
+        (b"journal\nskip\nend\n", "fault BadText 2 9\n"),
     ];
     for (text, line) in table {
         let (number, written) = refused(rt.alloc(), text)?;

@@ -84,7 +84,7 @@ returns-clause-played c w h =
     let same : tick w m c.args.process ≡ by = tick-some w m c.args.process found.client found.there in
     let acts : is_silent by.acts ≡ is_silent (tells w' (call_of told.call) did.said).acts = ap (λ (x : Outcome). is_silent x.acts) did.outcome in
     let quiet : c.match-matches.matches ≡ is_silent by.acts = elim c.match-matches.branch [
-      in-Nothing v ↦ v.matches-is ∙ sym (acts ∙ silent w' (call_of told.call) did.said (subst (λ (x : Said). Says (call_of told.call) x did.said) v.in-Nothing.is did.says))
+      | in-Nothing v ↦ v.matches-is ∙ sym (acts ∙ silent w' (call_of told.call) did.said (subst (λ (x : Said). Says (call_of told.call) x did.said) v.in-Nothing.is did.says))
       | in_default-matches v ↦ v.matches-is ∙ sym (acts ∙ loud w' (call_of told.call) told.said did.said did.says v.in_default-matches.not-Nothing)
     ] in
     record {

@@ -24,7 +24,7 @@ loop-passed-preserved c =
     let more : RoseByAtMost 1 c.loop-passed.self c.tick.new.self = c.in_ok-passed_quietly.ensures.few in
     let quietly : Bool = c.in_ok-passed_quietly.passed_quietly in
     let both : c.if-is_quiet.is_quiet ≡ (c.loop-passed.is_quiet && quietly) = elim c.if-is_quiet.branch [
-      then-is_quiet v ↦ v.is_quiet-is ∙ ap (λ (b : Bool). b && quietly) (sym v.if-is_quiet.true)
+      | then-is_quiet v ↦ v.is_quiet-is ∙ ap (λ (b : Bool). b && quietly) (sym v.if-is_quiet.true)
       | else-is_quiet v ↦ v.is_quiet-is ∙ (v.if-is_quiet.false ∙ ap (λ (b : Bool). b && quietly) (sym v.if-is_quiet.false))
     ] in
     record {
