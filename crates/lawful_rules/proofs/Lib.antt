@@ -1,0 +1,4 @@
+pub mod Pieces
+pub mod Judging
+pub mod Framing
+pub mod WorkerRows

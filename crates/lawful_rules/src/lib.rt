@@ -19,6 +19,8 @@ ghost use Rattle.lawful_rules.specs.Known.{Known};
 ghost use Rattle.lawful_rules.specs.Facts.{Life, HasLength, HasReply, IsRequest, IsAnswer, IsWorkerAt, IsLine, IsMarked};
 ghost use Rattle.lawful_rules.specs.Lawful.{AreRows, Grounds, LawfulStep, ReplyGrounds, ByStart, ByPacket, ByTick, LawfulAct};
 
+use fragments::{fronts_grow_by_a_piece, pieces_before_the_last_are_full};
+
 /// Each row of the rules is a lawful step: of a worker in each of its states, whatever the pool answers, and of a
 /// caller that starts a call, has a packet of its call, or ticks.
 pub fn rules_are_lawful()
@@ -53,4 +55,7 @@ pub fn rules_are_lawful()
     ensures tick { (k : Known) (machine process : ℕ) (l : Line) (before : List ℕ) →
         ReplyGrounds k → IsLine k machine process l → IsMarked k.bag l.caller before →
         LawfulAct k l ByTick before (ticked machine l) }
-{}
+{
+    fronts_grow_by_a_piece();
+    pieces_before_the_last_are_full();
+}
