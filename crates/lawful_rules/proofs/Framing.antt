@@ -1,5 +1,5 @@
 -- What can be framed: the answers of a server to a packet that can.
-use Rattle.std.proofs.Common.{◌≡◌, ◌≢◌, ℕ, ◌<◌, ◌≤◌, ◌^◌, List, [], length, Bool, true, false, refl, ap, sym, ◌∙◌, subst, arith, eqb, inl, inr}
+use Rattle.std.proofs.Common.{◌≡◌, ℕ, ◌<◌, ◌≤◌, ◌^◌, List, [], length, Bool, true, false, refl, arith, eqb, inl, inr}
 use Rattle.std.specs.Prelude.{IsTrue, not, ◌&&◌, ◌==◌, Option, Some, None}
 use Rattle.std.proofs.lemmas.Bool.{eq-eqb}
 use Rattle.std.proofs.lemmas.Bool.Decides.{eqb_tells}
@@ -11,7 +11,7 @@ use Rattle.rpc_header.specs.declared.Kind.{Kind}
 use Rattle.rpc_header.specs.declared.Kind.TheVariants as kind
 use Rattle.rpc_header.specs.Fields.{has_pieces, is_reason}
 use Rattle.rpc_header.specs.Limits.{data_limit}
-use Rattle.rpc_header.specs.Spelling.{HasSpelling, FitsFields, is_short_fragment}
+use Rattle.rpc_header.specs.Spelling.{HasSpelling, is_short_fragment}
 use Rattle.call_rules.specs.Packet.{Packet, Fields}
 use Rattle.call_rules.specs.Worker.{Answer, answer_header, answer_kind, answer_to, ack_packet, reject_packet, bound_packet, reply_packet}
 use Rattle.replay_model.specs.Arrival.{header_of}

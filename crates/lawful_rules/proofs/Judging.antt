@@ -1,5 +1,5 @@
 -- What a judgement says of the word and of the packet, and when two words or calls are the same.
-use Rattle.std.proofs.Common.{◌≡◌, ◌≢◌, ◌<◌, ℕ, Bool, true, false, refl, eqb, eqb-true, arith, ◌⊎◌}
+use Rattle.std.proofs.Common.{◌≡◌, ◌<◌, true, false, refl, eqb, eqb-true, arith, ◌⊎◌}
 use Rattle.std.proofs.lemmas.Bool.{false≢true, and_parts}
 use Rattle.std.proofs.lemmas.Bool.Decides.{nat_tests}
 use Rattle.rpc_header.specs.declared.Activity.{Activity}

@@ -2,3 +2,6 @@ pub mod Pieces
 pub mod Judging
 pub mod Framing
 pub mod WorkerRows
+pub mod Sending
+pub mod CallerRows
+pub mod TickRows

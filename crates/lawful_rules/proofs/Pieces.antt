@@ -1,5 +1,5 @@
 -- What the pieces of a text are known by, and what follows of the last piece.
-use Rattle.std.proofs.Common.{◌≡◌, ◌<◌, ◌≤◌, ◌+◌, ℕ, List, [], ◌++◌, length, refl, ap, sym, ◌∙◌, subst, arith}
+use Rattle.std.proofs.Common.{◌≡◌, ◌<◌, ◌≤◌, ◌+◌, ℕ, List, [], ◌++◌, length, ap, sym, ◌∙◌, subst}
 use Rattle.item_list.specs.Bytes.{AreBytes}
 use Rattle.fragments.specs.Pieces.{front, last_piece, piece, piece_size}
 

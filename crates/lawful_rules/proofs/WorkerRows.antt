@@ -1,8 +1,8 @@
 -- Each row of the worker's rules is a lawful step.
-use Rattle.std.proofs.Common.{◌≡◌, ◌≢◌, ℕ, zero, suc, ◌+◌, ◌<◌, ◌≤◌, ◌^◌, List, [], ◌∷◌, ◌++◌, length, Some, None, Option, Bool, true, false, cond, refl, ap, sym, ◌∙◌, subst, arith, inl, inr, ◌⊎◌, eqb, eqb-true, leb, ltb}
-use Rattle.std.specs.Prelude.{Contains, is_some, ◌==◌}
+use Rattle.std.proofs.Common.{◌≡◌, ◌≢◌, ℕ, ◌+◌, ◌<◌, ◌≤◌, ◌^◌, List, [], ◌∷◌, ◌++◌, length, Some, None, Option, Bool, true, false, cond, refl, ap, sym, ◌∙◌, subst, arith, inl, inr, ◌⊎◌, eqb, eqb-true, leb, ltb}
+use Rattle.std.specs.Prelude.{Contains}
 use Rattle.std.specs.Option.{option_map}
-use Rattle.std.proofs.lemmas.Bool.{false≢true, eqb-false, eq-eqb, leb-true, ltb-true, ltb-false}
+use Rattle.std.proofs.lemmas.Bool.{false≢true, eq-eqb, leb-true}
 use Rattle.std.proofs.lemmas.Option.{none-some, same_Some}
 use Rattle.std.proofs.lemmas.List.Elements.{Contains-push}
 use Rattle.fragments.specs.Pieces.{last_piece, piece, front}
@@ -16,7 +16,7 @@ use Rattle.binder.specs.declared.row.Verdict.{Verdict}
 use Rattle.binder.specs.declared.row.Verdict.TheVariants as verdict
 use Rattle.binder.specs.Exports.{accepts, look_up}
 use Rattle.binder.specs.Interfaces.{name_in}
-use Rattle.call_rules.specs.Packet.{Call, Packet, Fields}
+use Rattle.call_rules.specs.Packet.{Call, Packet}
 use Rattle.call_rules.specs.Entry.{Entry, Empty, Gather, Filling, Running, Done, Sending, Word, word_of, is_same_word, judge}
 use Rattle.call_rules.specs.declared.entry.Judged.{Judged}
 use Rattle.call_rules.specs.declared.entry.Judged.TheVariants as judged
@@ -26,14 +26,14 @@ use Rattle.call_rules.specs.declared.worker.Did.{Did}
 use Rattle.call_rules.specs.declared.worker.Did.TheVariants as did
 use Rattle.call_rules.specs.declared.worker.Unfit.{Unfit}
 use Rattle.call_rules.specs.declared.worker.Unfit.TheVariants as unfit
-use Rattle.call_rules.specs.Worker.{Worker, Resting, Claimed, Took, Admitted, Ran, Fetched, Answer, Run, Asked, Adds, Nothing, ARun, APacket, ARejection, Step, answer_kind, answer_to, ack_packet, reject_packet, bound_packet, reply_packet, drops, answers, rejects, claims, admits, exchanges, exchanges_and_sends, on_bind, on_judged, on_accepted, on_call, on_kind, on_idle, on_begin, on_more, on_fetch, on_judged_claim, on_claimed, on_due, on_other, on_took, run_of, on_admitted, on_ran, wanted_piece, resends, on_fetched}
-use Rattle.replay_model.specs.Record.{Start, Rejection}
+use Rattle.call_rules.specs.Worker.{Worker, Resting, Claimed, Took, Admitted, Ran, Fetched, Answer, Run, Adds, Nothing, APacket, ARejection, answer_kind, ack_packet, reject_packet, bound_packet, reply_packet, drops, rejects, claims, admits, exchanges, exchanges_and_sends, on_bind, on_judged, on_call, on_kind, on_idle, on_begin, on_more, on_fetch, on_judged_claim, on_claimed, on_due, on_other, on_took, run_of, on_admitted, on_ran, wanted_piece, resends, on_fetched}
+use Rattle.replay_model.specs.Record.{Start}
 use Rattle.replay_model.specs.Step.{asked_of, refusal}
 use Rattle.lawful_rules.specs.Known.{Known, with_adds, with_sent, next_packet}
-use Rattle.lawful_rules.specs.Facts.{Life, StartsPacket, HasReply, HasRun, CanBeFramed, CarriesPiece, IsCallPiece, IsOfCall, Requests, IsRequest, IsReplyPiece, IsRejection, Answers, IsAnswer, Gathers, IsEntry, RemembersIn, Remembers, carrier, IsCarrier, HasNotRun, IsWorkerAt}
-use Rattle.lawful_rules.specs.Lawful.{AreRows, Grounds, owns, is_owned, is_run, Advances, IsLawfulRun, AreLawfulAdds, LawfulStep}
+use Rattle.lawful_rules.specs.Facts.{Life, StartsPacket, HasReply, HasRun, CanBeFramed, IsCallPiece, IsOfCall, Requests, IsRequest, IsReplyPiece, Answers, IsAnswer, Gathers, IsEntry, RemembersIn, Remembers, carrier, IsCarrier, HasNotRun, IsWorkerAt}
+use Rattle.lawful_rules.specs.Lawful.{AreRows, Grounds, owns, is_owned, is_run, Advances, AreLawfulAdds, LawfulStep}
 use Rattle.lawful_rules.proofs.Pieces.{PieceLaws, first_front, last_front, one_piece}
-use Rattle.lawful_rules.proofs.Judging.{IsNew, IsMore, IsFetch, new_where_admitted, last_where_admitted, new_where_begun, not_last_where_begun, more_where_gathered, fetch_where_done, same_word}
+use Rattle.lawful_rules.proofs.Judging.{new_where_admitted, last_where_admitted, new_where_begun, not_last_where_begun, more_where_gathered, fetch_where_done, same_word}
 use Rattle.lawful_rules.proofs.Framing.{ack_framed, reject_framed, bound_framed, reply_framed}
 
 -- What a worker's packet says.
@@ -274,9 +274,12 @@ whole_call laws {k} {p} c first last =
 admit_lawful : PieceLaws → {k : Known} {f : Life} {rows : List (Option ExportRow)} {p : Packet} (seen : Word) (e : Entry) → IsCarrier k f p → Grounds k f p.header.call.activity e → judge (word_of e) p.header ≡ judged.Admit → LawfulStep k f rows p (Claimed p seen) e (admits p p.payload)
 admit_lawful laws {k} {f} {rows} {p} seen e c g j =
     let new = new_where_admitted (word_of e) p.header j in
-    exchange (Admitted p p.payload) (Running p.header.call.number) did.Admits Nothing (own_carrier p)
-    (c, refl, whole_call laws (call_piece c new.is_call) new.is_first (last_where_admitted (word_of e) p.header j),
-    not_run g c (not_remembered (word_of e) p.header.call.number new.not_owned new.empty_or_less))
+    exchange (Admitted p p.payload) (Running p.header.call.number) did.Admits Nothing (own_carrier p) (
+      c,
+      refl,
+      whole_call laws (call_piece c new.is_call) new.is_first (last_where_admitted (word_of e) p.header j),
+      not_run g c (not_remembered (word_of e) p.header.call.number new.not_owned new.empty_or_less),
+    )
     (inr new.not_owned) tt
     (λ m h. omega (arith, new_advances (word_of e) p.header.call.number new.not_owned new.empty_or_less m h)) tt
 
@@ -286,7 +289,7 @@ begin_lawful laws {k} {f} {rows} {p} true seen e c j =
     let new = new_where_begun (word_of e) p.header j in
     let cp = call_piece c new.is_call in
     let more : 0 ≢ last_piece (length cp.arguments) =
-        λ same. false≢true (sym (not_last_where_begun (word_of e) p.header j) ∙ cp.carries.is_last ∙ eq-eqb p.header.fragment (last_piece (length cp.arguments)) (new.is_first ∙ same)) in
+    λ same. false≢true (sym (not_last_where_begun (word_of e) p.header j) ∙ cp.carries.is_last ∙ eq-eqb p.header.fragment (last_piece (length cp.arguments)) (new.is_first ∙ same)) in
     exchange Resting (Gather p.header.call.number p.payload 1) did.Begins (APacket (ack_packet p)) (no_carrier p) tt (inr new.not_owned)
     (record {
       export = p.header.export;
@@ -346,8 +349,8 @@ gathered_with : {k : Known} {f : Life} {p : Packet} (n : ℕ) (bytes : List ℕ)
 gathered_with {k} {f} {p} n bytes next g same c =
     let s = g.entry in
     let one : record { call = record { activity = p.header.call.activity; number = n }; export = s.export; procedure = s.procedure; arguments = s.arguments }
-        ≡ record { call = p.header.call; export = p.header.export; procedure = p.header.procedure; arguments = c.arguments } =
-        g.one_start _ _ s.was_started c.was_started (ap (λ x. record { activity = p.header.call.activity; number = x }) same) in
+    ≡ record { call = p.header.call; export = p.header.export; procedure = p.header.procedure; arguments = c.arguments } =
+    g.one_start _ _ s.was_started c.was_started (ap (λ x. record { activity = p.header.call.activity; number = x }) same) in
     s.gathered ∙ ap (λ (x : Start). front x.arguments next) one
 
 due_lawful : PieceLaws → {k : Known} {f : Life} {rows : List (Option ExportRow)} {p : Packet} (n : ℕ) (bytes : List ℕ) (next : ℕ) → IsCarrier k f p → p.header.kind ≡ kind.Call → n ≡ p.header.call.number → p.header.fragment ≡ next → Grounds k f p.header.call.activity (Filling n bytes next) → LawfulStep k f rows p (Took p) (Filling n bytes next) (on_due p n bytes next)
@@ -373,7 +376,7 @@ due_lawful laws {k} {f} {rows} {p} n bytes next c call same due g = go p.header.
         (inl refl) tt (λ m h. omega (arith, same, h)) tt
     go false last =
         let other : p.header.fragment ≢ last_piece (length cp.arguments) =
-            λ e. false≢true (sym last ∙ cp.carries.is_last ∙ eq-eqb p.header.fragment (last_piece (length cp.arguments)) e) in
+        λ e. false≢true (sym last ∙ cp.carries.is_last ∙ eq-eqb p.header.fragment (last_piece (length cp.arguments)) e) in
         exchange Resting (Gather n (bytes ++ p.payload) (next + 1)) did.Rests (APacket (ack_packet p)) (no_carrier p) tt (inl refl)
         (record {
           export = p.header.export;

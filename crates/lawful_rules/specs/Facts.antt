@@ -1,6 +1,6 @@
 -- What holds of packets, entries, workers and processes, by what is known. Each fact is positive: it stays true as more
 -- becomes known.
-use Rattle.std.specs.Prelude.{◌≡◌, ◌≢◌, ℕ, ◌+◌, ◌-◌, ◌^◌, ◌<◌, ◌≤◌, List, [], length, Option, Some, None, Bool, true, false, ◌==◌, All, Contains}
+use Rattle.std.specs.Prelude.{◌≡◌, ◌≢◌, ℕ, ◌-◌, ◌^◌, ◌<◌, ◌≤◌, List, [], length, Option, Some, None, Bool, true, false, ◌==◌, All, Contains}
 use Rattle.item_list.specs.Bytes.{AreBytes}
 use Rattle.fragments.specs.Pieces.{last_piece, piece, front}
 use Rattle.fragments.specs.declared.limits.TheConstants.{LONG}
@@ -15,7 +15,7 @@ use Rattle.call_rules.specs.Packet.{Call, Packet, piece_size}
 use Rattle.call_rules.specs.Entry.{Entry, Empty, Gather, Filling, Running, Done, Sending, Word, word_of}
 use Rattle.call_rules.specs.declared.entry.Phase.{Phase}
 use Rattle.call_rules.specs.declared.entry.Phase.TheVariants as phase
-use Rattle.call_rules.specs.Worker.{Worker, Resting, Claimed, Took, Admitted, Ran, Fetched, Answer, Run}
+use Rattle.call_rules.specs.Worker.{Worker, Resting, Claimed, Took, Admitted, Ran, Fetched, Run}
 use Rattle.call_rules.specs.declared.caller.TheConstants.{TRIES}
 use Rattle.call_rules.specs.Caller.{Caller, State, current_call}
 use Rattle.call_rules.specs.Caller as caller
@@ -23,9 +23,9 @@ use Rattle.replay_model.specs.declared.limits.TheConstants.{SERVER_MACHINE}
 use Rattle.replay_model.specs.Arrival.{header_of}
 use Rattle.replay_model.specs.Once.{IsTransmission}
 use Rattle.replay_model.specs.Process.{Line}
-use Rattle.replay_model.specs.Record.{Start, Rejection}
+use Rattle.replay_model.specs.Record.{Rejection}
 use Rattle.replay_model.specs.Step.{refusal}
-use Rattle.replay_model.specs.World.{packet_at, is_entry_activity}
+use Rattle.replay_model.specs.World.{is_entry_activity}
 use Rattle.lawful_rules.specs.Known.{Known}
 
 -- the second in which the server booted, and the last that it has read

@@ -1,6 +1,6 @@
 -- What the world must know of one step of a worker or of a process, so that what holds of it goes on to hold. Each row
 -- of the rules is such a step, and each such step keeps what holds: so rows and world meet here alone.
-use Rattle.std.specs.Prelude.{◌≡◌, ◌≢◌, ◌⊎◌, ℕ, ◌+◌, ◌^◌, ◌<◌, ◌≤◌, List, [], ◌∷◌, length, Option, Some, None, unwrap_or, is_some, Bool, true, false, All, Contains}
+use Rattle.std.specs.Prelude.{◌≡◌, ◌⊎◌, ℕ, ◌+◌, ◌^◌, ◌<◌, ◌≤◌, List, [], ◌∷◌, length, Option, Some, None, unwrap_or, is_some, Bool, true, false, All, Contains}
 use Rattle.rpc_header.specs.declared.Activity.{Activity}
 use Rattle.rpc_header.specs.declared.Export.{Export}
 use Rattle.rpc_header.specs.declared.Kind.{Kind}
@@ -9,19 +9,19 @@ use Rattle.binder.specs.declared.row.ExportRow.{ExportRow}
 use Rattle.binder.specs.declared.row.Verdict.TheVariants as verdict
 use Rattle.binder.specs.declared.interface.InterfaceName.{InterfaceName}
 use Rattle.binder.specs.Exports.{accepts, look_up}
-use Rattle.call_rules.specs.Packet.{Call, Packet}
+use Rattle.call_rules.specs.Packet.{Packet}
 use Rattle.call_rules.specs.Entry.{Entry, Word, word_of}
 use Rattle.call_rules.specs.declared.entry.Phase.{Phase}
 use Rattle.call_rules.specs.declared.entry.Phase.TheVariants as phase
 use Rattle.call_rules.specs.declared.caller.TheConstants.{TRIES}
-use Rattle.call_rules.specs.Worker.{Worker, Resting, Admitted, Run, Adds, Nothing, ARun, APacket, ARejection, Step}
+use Rattle.call_rules.specs.Worker.{Worker, Admitted, Run, Adds, Nothing, ARun, APacket, ARejection, Step}
 use Rattle.call_rules.specs.Caller.{is_idle, current_call}
 use Rattle.replay_model.specs.Once.{IsTransmission}
-use Rattle.replay_model.specs.Process.{Line, LineStep, Said, SaysNothing, Sends, Waits, Returned, Fails, BindFails, BoundTo, NotBound}
+use Rattle.replay_model.specs.Process.{Line, LineStep, Said, Sends, Returned, Fails}
 use Rattle.replay_model.specs.Record.{Start, Return, Cause, Unanswered, RefusedFor}
-use Rattle.replay_model.specs.World.{number_limit, packet_at}
+use Rattle.replay_model.specs.World.{packet_at}
 use Rattle.lawful_rules.specs.Known.{Known, with_start, with_sent, with_adds, next_packet}
-use Rattle.lawful_rules.specs.Facts.{Life, StartsPacket, HasReply, HasRun, IsRequest, IsAnswer, IsEntry, Remembers, phase_owned, carrier, IsWorkerAt, HasRoom, IsOpenIn, IsMarked}
+use Rattle.lawful_rules.specs.Facts.{Life, HasReply, HasRun, IsRequest, IsAnswer, IsEntry, Remembers, phase_owned, carrier, IsWorkerAt, HasRoom, IsOpenIn, IsMarked}
 
 -- What a worker's rows rest on.
 

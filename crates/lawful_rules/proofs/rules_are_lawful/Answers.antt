@@ -1,5 +1,7 @@
 -- Each clause is the lemma on its rows, by the laws of pieces that the function calls.
 use Rattle.lawful_rules.proofs.WorkerRows.{idle_lawful, claimed_lawful, took_lawful, admitted_lawful, ran_lawful, fetched_lawful}
+use Rattle.lawful_rules.proofs.CallerRows.{start_lawful, packet_lawful}
+use Rattle.lawful_rules.proofs.TickRows.{tick_lawful}
 use Rattle.lawful_rules.proofs.rules_are_lawful.Goals as goal
 
 pub returns-clause-idle : goal.returns-clause-idle
@@ -61,10 +63,40 @@ returns-clause-fetched c k f rows p e h g =
     k f rows p e h g
 
 pub returns-clause-start : goal.returns-clause-start
-returns-clause-start c = ?
+returns-clause-start c k m process second l procedure arguments before h idle low early fits has =
+    start_lawful
+    (record {
+      none = c.fronts_grow_by_a_piece.ensures.none;
+      more = c.fronts_grow_by_a_piece.ensures.more;
+      all = c.fronts_grow_by_a_piece.ensures.all;
+      full = c.pieces_before_the_last_are_full.ensures.full;
+      fits = c.pieces_before_the_last_are_full.ensures.fits;
+      bytes = c.pieces_before_the_last_are_full.ensures.bytes;
+    })
+    k m process second l procedure arguments before h low early fits has
 
 pub returns-clause-packet : goal.returns-clause-packet
-returns-clause-packet c = ?
+returns-clause-packet c k m process l n p before g h answer there counted =
+    packet_lawful
+    (record {
+      none = c.fronts_grow_by_a_piece.ensures.none;
+      more = c.fronts_grow_by_a_piece.ensures.more;
+      all = c.fronts_grow_by_a_piece.ensures.all;
+      full = c.pieces_before_the_last_are_full.ensures.full;
+      fits = c.pieces_before_the_last_are_full.ensures.fits;
+      bytes = c.pieces_before_the_last_are_full.ensures.bytes;
+    })
+    k m process l n p before g h answer there counted
 
 pub returns-clause-tick : goal.returns-clause-tick
-returns-clause-tick c = ?
+returns-clause-tick c k m process l before g h marked =
+    tick_lawful
+    (record {
+      none = c.fronts_grow_by_a_piece.ensures.none;
+      more = c.fronts_grow_by_a_piece.ensures.more;
+      all = c.fronts_grow_by_a_piece.ensures.all;
+      full = c.pieces_before_the_last_are_full.ensures.full;
+      fits = c.pieces_before_the_last_are_full.ensures.fits;
+      bytes = c.pieces_before_the_last_are_full.ensures.bytes;
+    })
+    k m process l before g h marked
