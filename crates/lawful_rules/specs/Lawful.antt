@@ -163,7 +163,8 @@ pub record IsLawfulPacket (k : Known) (l : Line) (p : Packet) : Type 0 where
   pub request : IsRequest k p
   pub own : p.header.call.activity ≡ l.caller.activity
 
--- what a process says: l is the line before the step, and sent what it had sent since the last begin or counted packet
+-- what a process says: l is the line before the step, and sent what it had sent since the last begin or counted packet,
+-- of which the way may be one
 abbrev pub IsLawfulSaying : Known → Line → Way → (sent : List ℕ) → (now_idle : Bool) → Said → Type 0
 IsLawfulSaying k l way sent now_idle (Sends p) = IsLawfulPacket k l p
 IsLawfulSaying k l way sent now_idle (Returned x) = IsLawfulReturn k l x × (now_idle ≡ true)
@@ -178,4 +179,4 @@ pub record LawfulAct (k : Known) (l : Line) (way : Way) (before : List ℕ) (s :
   pub next : IsNext way l s.line
   pub kept_open : is_idle s.line.caller.state ≡ false → IsKeptOpen way l
   pub marked : IsMarked (known_after k s.said).bag s.line.caller (sent_after k s.said (sent_by way before))
-  pub saying : IsLawfulSaying (known_by k way) l way before (is_idle s.line.caller.state) s.said
+  pub saying : IsLawfulSaying (known_by k way) l way (sent_by way before) (is_idle s.line.caller.state) s.said
