@@ -1,12 +1,8 @@
 pub mod Lists
 pub mod Places
 pub mod Parts
-pub mod Framing
-pub mod Arriving
-pub mod Growth
-pub mod Starting
-pub mod Delivering
-pub mod Workers
-pub mod Rows
-pub mod Steps
-pub mod Whole
+pub mod Grows
+pub mod Owning
+pub mod Works
+pub mod Sending
+pub mod Acting
