@@ -6,3 +6,4 @@ pub mod Owning
 pub mod Works
 pub mod Sending
 pub mod Acting
+pub mod Does

@@ -148,3 +148,14 @@ Workers-after {k} {f} {es} {ws} {i} {v} {p} {e} new o u at g runs only hu alone 
   where
     low : 1 ≤ i
     low = (numbered_read 1 ws i v at.there).0
+
+-- no worker does a step, and there is no new run
+pub Workers-known : {k new : Known} {f : Life} {es : List Entry} {ws : List Worker} → Grows k new → ((r : Run) → Contains new.journal r → Contains k.journal r) → Workers k f es ws → Workers new f es ws
+Workers-known {k} {new} {f} g back h =
+    record {
+      works = λ i v e. record {
+        has_entry = (h.works i v e).has_entry;
+        at_entry = λ p c x y. IsWorkerAt-grows g f v x (λ q arguments is n r d. n r (back r d)) ((h.works i v e).at_entry p c x y);
+      };
+      apart = h.apart;
+    }
