@@ -7,3 +7,5 @@ pub mod Works
 pub mod Sending
 pub mod Acting
 pub mod Does
+pub mod Laws
+pub mod Arriving
