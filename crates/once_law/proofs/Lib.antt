@@ -9,3 +9,6 @@ pub mod Acting
 pub mod Does
 pub mod Laws
 pub mod Arriving
+pub mod Services
+pub mod Calls
+pub mod Packets
