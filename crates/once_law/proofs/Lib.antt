@@ -12,3 +12,5 @@ pub mod Arriving
 pub mod Services
 pub mod Calls
 pub mod Packets
+pub mod Booting
+pub mod Whole

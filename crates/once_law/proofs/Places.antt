@@ -1,7 +1,7 @@
 -- The world's maps: what a process, an entry or a worker is after a write of one of them.
 use Rattle.std.proofs.Common.{◌≡◌, ◌≢◌, ◌⊎◌, ℕ, ◌+◌, ◌-◌, ◌≤◌, List, [], ◌∷◌, ◌++◌, length, refl, ap, sym, ◌∙◌, subst, arith, Some, None, inl, inr, Bool, true, false, ltb, cond, ltb-false, get_or}
 use Rattle.std.specs.Prelude.{slice_get, slice_set, Contains}
-use Rattle.std.proofs.lemmas.Option.{none-some, option_and_then_some, slice_get-get_or}
+use Rattle.std.proofs.lemmas.Option.{none-some, option_and_then_some, slice_get-get_or, slice_get_read}
 use Rattle.std.proofs.lemmas.Bool.{le-ltb, false≢true}
 use Rattle.std.proofs.lemmas.Bool.Decides.{nat_tests}
 use Rattle.std.proofs.lemmas.List.{length-set}
@@ -137,6 +137,15 @@ packet_cases bag q n p h =
       inl old ↦ inl (numbered_at 1 bag n p r.0 old)
     | inr new ↦ inr (omega (arith, new.0, r.0), new.1)
     ]
+
+-- a packet that stands in the bag has a number
+pub packet_number : (bag : List Packet) (p : Packet) → Contains bag p → (n : ℕ) × (packet_at bag n ≡ Some p)
+packet_number bag p c =
+    (
+      c.0 + 1,
+      numbered_at 1 bag (c.0 + 1) p (omega arith)
+      (subst (λ k. slice_get bag k ≡ Some p) (omega arith) (slice_get_read bag (length bag) c.0 p refl c.1 (sym c.2))),
+    )
 
 -- One process is written: each process afterwards is one of the others, or the one that was written.
 pub record Rewrites (before after : List Client) (machine process : ℕ) (old new : Line) : Type 0 where

@@ -1,0 +1,60 @@
+-- The invariant holds after any events, and `Once` follows from it.
+use Rattle.std.proofs.Common.{List, [], ◌∷◌, refl}
+use Rattle.std.specs.Prelude.{ℕ, Contains}
+use Rattle.call_rules.specs.Packet.{Packet}
+use Rattle.replay_model.specs.declared.event.Event.{Event}
+use Rattle.replay_model.specs.declared.event.Event.TheVariants as event
+use Rattle.replay_model.specs.Once.{Once, WasStarted, TellsRun, FailedFor}
+use Rattle.replay_model.specs.Record.{Failure}
+use Rattle.replay_model.specs.Step.{step, run}
+use Rattle.replay_model.specs.World.{World, numbered, packet_at, first_world}
+use Rattle.once_law.proofs.Lists.{all_of_members}
+use Rattle.once_law.proofs.Places.{packet_number}
+use Rattle.once_law.proofs.Parts.{Holds}
+use Rattle.once_law.proofs.Laws.{Laws}
+use Rattle.once_law.proofs.Arriving.{CanArrive, sent_can_arrive}
+use Rattle.once_law.proofs.Calls.{Holds-call, Holds-tick}
+use Rattle.once_law.proofs.Packets.{Holds-deliver, Holds-damage, Holds-show, Holds-work}
+use Rattle.once_law.proofs.Booting.{Holds-first}
+
+-- each event keeps the invariant
+Holds-step : Laws → (w : World) (e : Event) → Holds w → Holds (step w e)
+unfolding step
+Holds-step laws w (event.Call m p asked) h = Holds-call laws.rules w m p asked (numbered 2 w.clients m) h refl
+Holds-step laws w (event.Deliver k) h = Holds-deliver laws w k (packet_at w.bag k) h refl
+Holds-step laws w (event.Damage k bit) h = Holds-damage laws w k bit (packet_at w.bag k) h refl
+Holds-step laws w (event.Tick m p count) h = Holds-tick laws.rules w m p count h
+Holds-step laws w (event.Show k) h = Holds-show w k (packet_at w.bag k) h
+Holds-step laws w (event.Work n) h = Holds-work laws.rules w n (numbered 1 w.server.workers n) h refl
+Holds-step laws w event.Journal h = h
+Holds-step laws w event.End h = h
+
+Holds-run : Laws → (w : World) (events : List Event) → Holds w → Holds (run w events)
+Holds-run laws w [] h = h
+Holds-run laws w (e ∷ es) h = Holds-run laws (step w e) es (Holds-step laws w e h)
+
+-- after any events
+pub Holds-after : Laws → (small long : ℕ) (events : List Event) → Holds (run (first_world small long) events)
+Holds-after laws small long events = Holds-run laws (first_world small long) events (Holds-first small long)
+
+-- each packet that was sent in the course of any events can arrive
+pub all_can_arrive : Laws → (small long : ℕ) (events : List Event) (p : Packet) → Contains (run (first_world small long) events).bag p → CanArrive p
+all_can_arrive laws small long events p c =
+    let n = packet_number (run (first_world small long) events).bag p c in
+    sent_can_arrive ((Holds-after laws small long events).sent n.0 p n.1)
+
+pub once_holds : (w : World) → Holds w → Once w
+once_holds w h =
+    record {
+      runs_once = h.told.runs_once;
+      runs_were_started = all_of_members (WasStarted w.records) w.records.journal
+          (λ r c.
+          let s = h.told.runs_started r c in
+          record { start = s.start; is_listed = s.is_listed; same_call = s.same_call; same_procedure = s.same_procedure; same_arguments = s.same_arguments });
+      returns_tell_their_run = all_of_members (TellsRun w.records) w.records.returns
+          (λ x c.
+          let t = h.told.returns_run x c in
+          record { run = t.run; is_listed = t.is_listed; same_call = t.same_call; same_signal = t.same_signal; same_reply = t.same_reply });
+      returns_once = h.told.returns_once;
+      failures_have_their_cause = all_of_members (λ (f : Failure). FailedFor w.records.started w.records.rejects w.bag f f.cause) w.records.failures h.told.failed;
+    }
