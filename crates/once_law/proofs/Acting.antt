@@ -1,24 +1,21 @@
 -- The parts of the invariant that a lawful step of a process keeps, but for what is told.
-use Rattle.std.proofs.Common.{◌≡◌, ◌≢◌, ℕ, ◌+◌, ◌<◌, ◌≤◌, List, [], ◌∷◌, ◌++◌, Option, Some, Bool, true, false, refl, ap, sym, ◌∙◌, subst, arith, inl, inr}
+use Rattle.std.proofs.Common.{◌≡◌, ◌≢◌, ℕ, ◌<◌, List, [], ◌∷◌, ◌++◌, Option, Some, Bool, true, refl, ap, sym, ◌∙◌, subst, arith, inl, inr}
 use Rattle.std.specs.Prelude.{Contains}
-use Rattle.std.proofs.lemmas.Bool.{both_ways}
 use Rattle.std.proofs.lemmas.List.Elements.{Contains-push_cases}
-use Rattle.rpc_header.specs.declared.Activity.{Activity}
 use Rattle.binder.specs.declared.row.ExportRow.{ExportRow}
-use Rattle.call_rules.specs.Packet.{Packet, Call}
 use Rattle.call_rules.specs.Entry.{Entry}
 use Rattle.call_rules.specs.Worker.{Run}
-use Rattle.call_rules.specs.Caller.{is_idle, current_call}
+use Rattle.call_rules.specs.Caller.{is_idle}
 use Rattle.replay_model.specs.Once.{sent_since}
-use Rattle.replay_model.specs.Process.{Line, LineStep, Said, Sends, Returned}
+use Rattle.replay_model.specs.Process.{Line, LineStep, Said, Sends}
 use Rattle.replay_model.specs.Record.{Start, Return, Failure, Marked}
-use Rattle.replay_model.specs.World.{Client, packet_at, line_at, is_entry_activity}
+use Rattle.replay_model.specs.World.{Client, line_at, is_entry_activity}
 use Rattle.lawful_rules.specs.Known.{Known, Grows, next_packet, with_sent}
-use Rattle.lawful_rules.specs.Facts.{Life, IsRequest, IsSent, IsLine, IsMarked}
-use Rattle.lawful_rules.specs.Lawful.{Way, ByStart, ByPacket, ByTick, known_by, known_after, sent_by, sent_after, IsNext, IsLawfulSaying, LawfulAct}
+use Rattle.lawful_rules.specs.Facts.{Life, IsSent, IsLine, IsMarked}
+use Rattle.lawful_rules.specs.Lawful.{Way, ByStart, ByPacket, ByTick, known_by, known_after, sent_by, sent_after, IsLawfulSaying, LawfulAct}
 use Rattle.once_law.proofs.Lists.{members_push}
-use Rattle.once_law.proofs.Places.{EachLine, Rewrites, rewritten, packet_cases}
-use Rattle.once_law.proofs.Parts.{Names, Lives, Lines, HasNoReturn, Unreturned, Marks, Sent, Entries, Told}
+use Rattle.once_law.proofs.Places.{Rewrites, rewritten, packet_cases}
+use Rattle.once_law.proofs.Parts.{Names, Lives, Lines, Marks, Sent, Entries, Told}
 use Rattle.once_law.proofs.Grows.{Grows-then, Grows-with_sent, Grows-known_by, Grows-known_after, IsRequest-grows, IsSent-grows, IsEntry-grows, IsLine-grows, IsMarked-grows}
 use Rattle.once_law.proofs.Sending.{marks_by, marks_after, own_sent, other_sent}
 
@@ -78,8 +75,8 @@ has_no_run at names told r c e =
 pub start_of_run : {k : Known} {cs ds : List Client} {m p : ℕ} {l : Line} (way : Way) {sent : List ℕ} {s : LineStep} {returns : List Return} {failures : List Failure} → IsAct k cs ds m p l way sent s → Names cs k.started → Told k returns failures → (said : Said) (r : Run) → Contains k.journal r → (x : Start) → Contains (known_acted k way said).started x → x.call ≡ r.call → Contains k.started x
 start_of_run {k} (ByStart t) at names told said r cr x cx e =
     elim (Contains-push_cases k.started t x (subst (λ xs. Contains xs x) (started_after (known_by k (ByStart t)) said) cx)) [
-      inl old ↦ old
-    | inr new ↦ absurd (has_no_run at names told r cr (sym e ∙ ap (λ y. y.call) (sym new)))
+      | inl old ↦ old
+      | inr new ↦ absurd (has_no_run at names told r cr (sym e ∙ ap (λ y. y.call) (sym new)))
     ]
 start_of_run {k} (ByPacket n q) at names told said r cr x cx e = subst (λ xs. Contains xs x) (started_after k said) cx
 start_of_run {k} ByTick at names told said r cr x cx e = subst (λ xs. Contains xs x) (started_after k said) cx
@@ -163,9 +160,9 @@ Marks-acted {k} {cs} {ds} {m} {p} {l} {way} {s} marks at h =
 sent_acted : (k : Known) (l : Line) (way : Way) (sent : List ℕ) (now_idle : Bool) (said : Said) → IsLawfulSaying k l way sent now_idle said → Sent k → Sent (known_after k said)
 sent_acted k l way sent now_idle (Sends q) saying h n p e =
     elim (packet_cases k.bag q n p e) [
-      inl old ↦ IsSent-grows (Grows-with_sent k q) (h n p old)
-    | inr new ↦ subst (IsSent (with_sent k q) n) new.1
-        (record { to_server = λ t. IsRequest-grows (Grows-with_sent k q) saying.request; to_client = λ ne. absurd (ne saying.request.to_server) })
+      | inl old ↦ IsSent-grows (Grows-with_sent k q) (h n p old)
+      | inr new ↦ subst (IsSent (with_sent k q) n) new.1
+          (record { to_server = λ t. IsRequest-grows (Grows-with_sent k q) saying.request; to_client = λ ne. absurd (ne saying.request.to_server) })
     ]
 sent_acted k l way sent now_idle _ saying h n p e = h n p e
 

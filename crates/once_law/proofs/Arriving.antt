@@ -1,5 +1,5 @@
 -- What comes of a packet's frame, whole or with one bit flipped: the packet itself, or nothing.
-use Rattle.std.proofs.Common.{◌≡◌, ◌∙◌, ℕ, ◌^◌, ◌<◌, List, ◌++◌, length, Bool, true, false, cond, eqb, eqb-true, refl, ap, sym, subst, arith}
+use Rattle.std.proofs.Common.{◌≡◌, ◌∙◌, ℕ, ◌<◌, length, Bool, true, false, cond, eqb, eqb-true, refl, ap, sym, subst, arith}
 use Rattle.std.specs.Prelude.{Result, Ok, Err, IfOk}
 use Rattle.std.proofs.lemmas.Bool.{eq-eqb, eqb-false}
 use Rattle.std.proofs.lemmas.List.{length-append}
@@ -7,13 +7,12 @@ use Rattle.std.proofs.lemmas.List.Elements.{All-append}
 use Rattle.udp_frames.specs.declared.fault.FrameFault.{FrameFault}
 use Rattle.udp_frames.specs.Damage.{IsPayload, flipped}
 use Rattle.udp_frames.specs.Reading.{Datagram, reads}
-use Rattle.item_list.specs.Bytes.{AreBytes}
 use Rattle.once_law.proofs.Laws.{FrameLaws}
 use Rattle.rpc_header.specs.declared.Kind.{Kind}
 use Rattle.rpc_header.specs.declared.Kind.TheVariants as kind
 use Rattle.rpc_header.specs.Spelling.{spelling}
 use Rattle.rpc_header.specs.Reading.{read_of}
-use Rattle.call_rules.specs.Packet.{Packet, fields_of}
+use Rattle.call_rules.specs.Packet.{Packet}
 use Rattle.replay_model.specs.declared.discard.Discard.TheVariants as why
 use Rattle.lawful_rules.specs.Known.{Known}
 use Rattle.lawful_rules.specs.Facts.{CanBeFramed, Requests, IsRequest, Answers, IsAnswer, IsSent}

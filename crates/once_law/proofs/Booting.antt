@@ -1,6 +1,6 @@
 -- The invariant holds of the first world.
-use Rattle.std.proofs.Common.{◌≡◌, ◌≢◌, ◌⊎◌, ℕ, zero, suc, ◌+◌, ◌-◌, ◌^◌, ◌<◌, ◌≤◌, List, [], ◌∷◌, map, replicate, Option, Some, None, Bool, true, false, cond, eqb, eqb-true, ltb, refl, ap, sym, ◌∙◌, subst, arith, inl, inr}
-use Rattle.std.specs.Prelude.{Contains, slice_get, slice_index_or, ◌==◌, nat_lt}
+use Rattle.std.proofs.Common.{◌≡◌, ◌⊎◌, ℕ, zero, suc, ◌+◌, ◌-◌, ◌^◌, ◌<◌, ◌≤◌, List, [], ◌∷◌, map, replicate, Option, Some, None, Bool, true, false, cond, eqb, eqb-true, ltb, refl, ap, sym, ◌∙◌, subst, arith, inl, inr}
+use Rattle.std.specs.Prelude.{Contains, slice_get, slice_index_or}
 use Rattle.std.specs.Option.{option_map}
 use Rattle.std.proofs.lemmas.Option.{none-some, same_Some, option_and_then_some}
 use Rattle.std.proofs.lemmas.Bool.Decides.{nat_tests}
@@ -8,17 +8,15 @@ use Rattle.std.proofs.lemmas.List.{length-replicate}
 use Rattle.std.proofs.lemmas.List.Elements.{All-nil}
 use Rattle.rpc_header.specs.declared.Export.{Export}
 use Rattle.binder.specs.declared.row.ExportRow.{ExportRow}
-use Rattle.binder.specs.declared.row.Verdict.{Verdict}
 use Rattle.binder.specs.declared.row.Verdict.TheVariants as verdict
-use Rattle.binder.specs.declared.interface.InterfaceName.{InterfaceName}
 use Rattle.binder.specs.Exports.{booted, row_at, binding_at, place_of, look_up, exported, accepts, judged}
-use Rattle.call_rules.specs.Entry.{Entry, Empty}
+use Rattle.call_rules.specs.Entry.{Empty}
 use Rattle.call_rules.specs.Worker.{Worker, Resting}
 use Rattle.replay_model.specs.Once.{sent_since}
 use Rattle.replay_model.specs.Process.{Line}
-use Rattle.replay_model.specs.World.{Client, numbered, line_at, entry_at, entry_place, first_world, booted_client, booted_line, main_name, service_procedures}
+use Rattle.replay_model.specs.World.{Client, numbered, entry_place, first_world, booted_client, booted_line, main_name, service_procedures}
 use Rattle.lawful_rules.specs.Known.{Known, known}
-use Rattle.lawful_rules.specs.Facts.{Life, IsEntry, IsLine, IsMarked, carrier}
+use Rattle.lawful_rules.specs.Facts.{IsEntry, IsLine, IsMarked, carrier}
 use Rattle.lawful_rules.specs.Lawful.{AreRows}
 use Rattle.once_law.proofs.Places.{EachLine, numbered_read, entry_at_read}
 use Rattle.once_law.proofs.Parts.{owned, Holds}
@@ -135,8 +133,8 @@ rows_accept : (boot : ℕ) (export : Export) (procedure : ℕ) → accepts (expo
 unfolding accepts
 rows_accept boot export procedure h =
     elim (first_rows boot export.index) [
-      inl none ↦ absurd (refused (ap (λ row. judged row export.identifier procedure) (sym none) ∙ h))
-    | inr main ↦ accepted_is (main_row boot) export.identifier procedure (ap (λ row. judged row export.identifier procedure) (sym main.1) ∙ h)
+      | inl none ↦ absurd (refused (ap (λ row. judged row export.identifier procedure) (sym none) ∙ h))
+      | inr main ↦ accepted_is (main_row boot) export.identifier procedure (ap (λ row. judged row export.identifier procedure) (sym main.1) ∙ h)
     ]
   where
     refused : judged None export.identifier procedure ≡ verdict.Accepted → ⊥
@@ -145,10 +143,10 @@ rows_accept boot export procedure h =
 bindings_are : (boot i : ℕ) (export : Export) → binding_at (exported (booted boot) main_name service_procedures).rows i ≡ Some export → (boot ≡ export.identifier) × (0 ≡ export.index)
 bindings_are boot i export h =
     elim (first_rows boot i) [
-      inl none ↦ absurd (none-some export (ap bound (sym none) ∙ h))
-    | inr main ↦
-        let e = same_Some (record { identifier = boot; index = i }) export (ap bound (sym main.1) ∙ h) in
-        (ap (λ x. x.identifier) e, sym main.0 ∙ ap (λ x. x.index) e)
+      | inl none ↦ absurd (none-some export (ap bound (sym none) ∙ h))
+      | inr main ↦
+          let e = same_Some (record { identifier = boot; index = i }) export (ap bound (sym main.1) ∙ h) in
+          (ap (λ x. x.identifier) e, sym main.0 ∙ ap (λ x. x.index) e)
     ]
   where
     bound : Option ExportRow → Option Export

@@ -1,5 +1,5 @@
 -- The invariant is kept where a process starts a call, where its machine only reads the second, and where it ticks.
-use Rattle.std.proofs.Common.{◌≡◌, ℕ, zero, suc, ◌<◌, List, [], ◌∷◌, ◌++◌, Option, Some, None, Bool, true, false, cond, refl, ap, sym, ◌∙◌, subst, leb}
+use Rattle.std.proofs.Common.{◌≡◌, ℕ, zero, suc, ◌<◌, List, [], ◌∷◌, ◌++◌, Option, Some, None, Bool, true, false, cond, refl, sym, subst, leb}
 use Rattle.std.proofs.lemmas.Bool.{leb-false}
 use Rattle.call_rules.specs.Caller.{is_idle}
 use Rattle.replay_model.specs.declared.event.CallWord.{CallWord}

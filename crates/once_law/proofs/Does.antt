@@ -1,14 +1,13 @@
 -- Each lawful step of a process keeps the invariant.
-use Rattle.std.proofs.Common.{◌≡◌, ◌≢◌, ℕ, List, [], ◌∷◌, ◌++◌, length, map, Some, Bool, true, false, refl, ap, sym, ◌∙◌, subst, arith}
+use Rattle.std.proofs.Common.{◌≡◌, ◌≢◌, ℕ, List, [], ◌∷◌, ◌++◌, map, Some, Bool, refl, ap, sym, ◌∙◌, subst, arith}
 use Rattle.std.specs.Prelude.{Contains}
 use Rattle.std.proofs.lemmas.Bool.{both_ways}
 use Rattle.rpc_header.specs.declared.Activity.{Activity}
-use Rattle.call_rules.specs.Packet.{Packet, Call}
-use Rattle.call_rules.specs.Worker.{Run}
-use Rattle.call_rules.specs.Caller.{Caller, is_idle, current_call}
+use Rattle.call_rules.specs.Packet.{Call}
+use Rattle.call_rules.specs.Caller.{is_idle, current_call}
 use Rattle.replay_model.specs.Once.{NoneTwice, call_of_run, call_of_return, sent_since, FailedFor}
 use Rattle.replay_model.specs.Process.{Line, LineStep, Said, SaysNothing, Sends, Waits, Returned, Fails, BindFails, BoundTo, NotBound}
-use Rattle.replay_model.specs.Record.{Start, Return, Failure, Cause, Unanswered, RefusedFor, Marked, Heard, Starts, Hears}
+use Rattle.replay_model.specs.Record.{Return, Failure, Cause, Unanswered, RefusedFor, Marked, Heard, Starts, Hears}
 use Rattle.replay_model.specs.Step.{Outcome, behind, settled, with_line, does}
 use Rattle.replay_model.specs.World.{World, Client, numbered, with_numbered}
 use Rattle.lawful_rules.specs.Known.{Known, known, next_packet}
@@ -54,7 +53,7 @@ returned_own k l new way sent _ returns saying h = h
 returned_other : (k : Known) (l other : Line) (way : Way) (sent : List ℕ) (now_idle : Bool) (said : Said) (returns : List Return) → IsLawfulSaying k l way sent now_idle said → l.caller.activity ≢ other.caller.activity → HasNoReturn returns other → HasNoReturn (returns_after said returns) other
 returned_other k l other way sent now_idle (Returned x) returns saying ne h =
     λ opened. members_push (λ y. y.call ≢ current_call other.caller) returns x (h opened)
-        (λ e. ne (ap (λ c. c.activity) (sym saying.0.same_call ∙ e)))
+    (λ e. ne (ap (λ c. c.activity) (sym saying.0.same_call ∙ e)))
 returned_other k l other way sent now_idle _ returns saying ne h = h
 
 Unreturned-acted : {k : Known} {cs ds : List Client} {m p : ℕ} {l : Line} {way : Way} {sent : List ℕ} {s : LineStep} {returns : List Return} {failures : List Failure} → IsAct k cs ds m p l way sent s → Names cs k.started → Told k returns failures → Unreturned cs returns → Unreturned ds (returns_after s.said returns)

@@ -1,6 +1,6 @@
 -- What is positive stays true as more becomes known.
-use Rattle.std.proofs.Common.{◌≡◌, ℕ, ◌-◌, List, [], ◌∷◌, ◌++◌, Option, Some, Bool, refl}
-use Rattle.std.specs.Prelude.{All, Contains}
+use Rattle.std.proofs.Common.{◌≡◌, ℕ, ◌-◌, List, [], ◌∷◌, Option, Bool, refl}
+use Rattle.std.specs.Prelude.{All}
 use Rattle.std.proofs.lemmas.List.Elements.{All-weaker, Contains-append_left}
 use Rattle.rpc_header.specs.declared.Activity.{Activity}
 use Rattle.rpc_header.specs.declared.Kind.{Kind}
@@ -16,7 +16,7 @@ use Rattle.replay_model.specs.Once.{IsTransmission, FailedFor}
 use Rattle.replay_model.specs.Process.{Line, Said, Sends}
 use Rattle.replay_model.specs.Record.{Start, Failure, Cause, Unanswered, RefusedFor}
 use Rattle.lawful_rules.specs.Known.{Known, Grows, with_start, with_sent, with_adds}
-use Rattle.lawful_rules.specs.Facts.{Life, HasRun, Requests, IsRequest, Answers, IsAnswer, IsSent, Gathers, IsEntry, IsCarrier, HasNotRun, IsWorkerAt, IsCall, Receives, IsOpenIn, IsLine, AreAlike, IsMarkedIn, IsMarked}
+use Rattle.lawful_rules.specs.Facts.{Life, HasRun, Requests, IsRequest, Answers, IsAnswer, IsSent, Gathers, IsEntry, IsCarrier, HasNotRun, IsWorkerAt, IsCall, IsOpenIn, IsLine, AreAlike, IsMarkedIn, IsMarked}
 use Rattle.lawful_rules.specs.Lawful.{Way, ByStart, ByPacket, ByTick, known_by, known_after}
 use Rattle.once_law.proofs.Places.{packet_kept}
 use Rattle.once_law.proofs.Parts.{IsStartedRun}
@@ -168,11 +168,10 @@ IsOpenIn-grows : {a b : Known} → Grows a b → (l : Line) (s : State) → IsOp
 IsOpenIn-grows g l caller.Idle h = h
 IsOpenIn-grows g l (caller.Sending i) h = (IsCall-grows g h.0, h.1, h.2)
 IsOpenIn-grows g l caller.Waiting h = (IsCall-grows g h.0, h.1)
-IsOpenIn-grows g l (caller.Receiving j) h =
-    (
-      IsCall-grows g h.0,
-      record { reply = h.1.reply; has_run = HasRun-grows g h.1.has_run; begun = h.1.begun; within = h.1.within; kept = h.1.kept },
-    )
+IsOpenIn-grows g l (caller.Receiving j) h = (
+  IsCall-grows g h.0,
+  record { reply = h.1.reply; has_run = HasRun-grows g h.1.has_run; begun = h.1.begun; within = h.1.within; kept = h.1.kept },
+)
 IsOpenIn-grows g l caller.Binding h = h
 
 pub IsLine-grows : {a b : Known} {m p : ℕ} {l : Line} → Grows a b → IsLine a m p l → IsLine b m p l

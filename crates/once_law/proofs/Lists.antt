@@ -72,12 +72,12 @@ pub same_of_none_twice : {A B : Type 0} (f : A → B) (xs : List A) (x y : A) �
 same_of_none_twice f [] x y h cx cy e = absurd (omega (arith, cx.1))
 same_of_none_twice f (z ∷ zs) x y h cx cy e =
     elim (contains_cases z zs x cx) [
-      inl zx ↦ elim (contains_cases z zs y cy) [
-        inl zy ↦ sym zx ∙ zy
-      | inr ry ↦ absurd (apart_at f (f z) zs y h.0 ry (ap f zx ∙ e))
+      | inl zx ↦ elim (contains_cases z zs y cy) [
+        | inl zy ↦ sym zx ∙ zy
+        | inr ry ↦ absurd (apart_at f (f z) zs y h.0 ry (ap f zx ∙ e))
       ]
-    | inr rx ↦ elim (contains_cases z zs y cy) [
-        inl zy ↦ absurd (apart_at f (f z) zs x h.0 rx (ap f zy ∙ sym e))
-      | inr ry ↦ same_of_none_twice f zs x y h.1 rx ry e
+      | inr rx ↦ elim (contains_cases z zs y cy) [
+        | inl zy ↦ absurd (apart_at f (f z) zs x h.0 rx (ap f zy ∙ sym e))
+        | inr ry ↦ same_of_none_twice f zs x y h.1 rx ry e
       ]
     ]

@@ -1,5 +1,5 @@
 -- What workers own: no two own of one activity, and an entry in a worker's hands is in the phase that says so.
-use Rattle.std.proofs.Common.{◌≡◌, ◌≢◌, ◌⊎◌, ℕ, ◌≤◌, List, Option, Some, None, Bool, true, false, refl, ap, sym, ◌∙◌, subst, inl, inr}
+use Rattle.std.proofs.Common.{◌≡◌, ◌≢◌, ◌⊎◌, ℕ, ◌≤◌, List, Option, Some, None, true, false, refl, ap, sym, ◌∙◌, subst, inl, inr}
 use Rattle.std.specs.Prelude.{unwrap_or, is_some, Contains}
 use Rattle.std.proofs.lemmas.Option.{same_Some, none-some}
 use Rattle.std.proofs.lemmas.Bool.{true≢false, both_ways, false_from_ne_true}
@@ -8,7 +8,7 @@ use Rattle.call_rules.specs.Packet.{Packet}
 use Rattle.call_rules.specs.Entry.{Entry, word_of}
 use Rattle.call_rules.specs.Worker.{Worker, Resting, Claimed, Took, Admitted, Ran, Fetched, Run}
 use Rattle.replay_model.specs.Step.{exchanged}
-use Rattle.replay_model.specs.World.{numbered, with_numbered, entry_at, with_entry, is_entry_activity}
+use Rattle.replay_model.specs.World.{numbered, with_numbered, entry_at, is_entry_activity}
 use Rattle.lawful_rules.specs.Known.{Known, Grows}
 use Rattle.lawful_rules.specs.Facts.{Life, IsRequest, HasNotRun, carrier, IsWorkerAt}
 use Rattle.lawful_rules.specs.Lawful.{owns, is_owned, IsLawfulRun}
@@ -92,8 +92,8 @@ admitted_at {k} {f} {es} {ws} {i} {v} {p} {e} at r h =
 not_run_elsewhere : {k : Known} {f : Life} {es : List Entry} {ws : List Worker} {i : ℕ} {v : Worker} {p : Packet} {e : Entry} (new : Known) (o : Option Entry) → IsAt k f es ws i v p e → AreRunsBack k new p v o → (j : ℕ) (u : Worker) → numbered 1 ws j ≡ Some u → j ≢ i → (q : Packet) (arguments : List ℕ) → u ≡ Admitted q arguments → HasNotRun k q → HasNotRun new q
 not_run_elsewhere {k} {f} {es} {ws} {i} {v} {p} {e} new o at runs j u g ne q arguments is n r c same =
     elim (runs r c) [
-      inl old ↦ n r old same
-    | inr own ↦ others_elsewhere at (inl (ap owns own.0.was_admitted)) j u g ne q (ap owned is) (ap (λ d. d.activity) (sym same ∙ own.0.same_call))
+      | inl old ↦ n r old same
+      | inr own ↦ others_elsewhere at (inl (ap owns own.0.was_admitted)) j u g ne q (ap owned is) (ap (λ d. d.activity) (sym same ∙ own.0.same_call))
     ]
 
 -- the worker's own entry after an exchange

@@ -1,30 +1,29 @@
 -- The invariant is kept where a packet comes, whole or damaged, and where a worker works.
-use Rattle.std.proofs.Common.{◌≡◌, ◌≢◌, ℕ, ◌+◌, ◌*◌, List, [], ◌∷◌, ◌++◌, length, Option, Some, None, Bool, true, false, refl, ap, sym, ◌∙◌, subst, arith, ltb, eqb, eqb-true}
+use Rattle.std.proofs.Common.{◌≡◌, ◌≢◌, ℕ, ◌+◌, ◌*◌, List, [], ◌∷◌, length, Option, Some, None, refl, sym, ◌∙◌, subst, arith, ltb, eqb, eqb-true}
 use Rattle.std.specs.Prelude.{Contains, unwrap_or}
 use Rattle.std.proofs.lemmas.Option.{none-some, same_Some}
 use Rattle.std.proofs.lemmas.List.Elements.{Contains-append_right}
 use Rattle.std.proofs.lemmas.Bool.{eqb-false}
 use Rattle.udp_frames.specs.Damage.{flipped}
 use Rattle.call_rules.specs.Packet.{Packet}
-use Rattle.call_rules.specs.Entry.{Entry, Word, Empty}
-use Rattle.call_rules.specs.Worker.{Worker, Resting, Claimed, Took, Admitted, Ran, Fetched, Answer, Step, on_idle, on_claimed, on_took, on_admitted, on_ran, on_fetched}
+use Rattle.call_rules.specs.Entry.{Entry, Empty}
+use Rattle.call_rules.specs.Worker.{Worker, Resting, Claimed, Took, Admitted, Ran, Fetched, Step, on_idle, on_claimed, on_took, on_admitted, on_ran, on_fetched}
 use Rattle.call_rules.specs.Caller.{is_idle, is_unused, on_packet}
 use Rattle.replay_model.specs.declared.limits.TheConstants.{READY_CELLS, SERVER_MACHINE}
 use Rattle.replay_model.specs.Arrival.{Arrival, Comes, Dropped, arrives, frame_of}
 use Rattle.replay_model.specs.Once.{sent_since}
 use Rattle.replay_model.specs.Process.{Line, heard}
 use Rattle.replay_model.specs.Service.{Served, served}
-use Rattle.replay_model.specs.Step.{settled, works, asked_of, server_takes, hears, line_takes, client_takes, machine_takes, takes_arrival, deliver_event, damage_event, show_event, claims_next, runs_body, work_event}
+use Rattle.replay_model.specs.Step.{settled, works, asked_of, server_takes, hears, line_takes, client_takes, machine_takes, takes_arrival, deliver_event, damage_event, show_event, claims_next, work_event}
 use Rattle.replay_model.specs.World.{World, Client, numbered, packet_at, entry_at, has_buffer}
 use Rattle.lawful_rules.specs.Known.{known}
-use Rattle.lawful_rules.specs.Facts.{IsRequest, IsSent, IsWorkerAt, carrier}
+use Rattle.lawful_rules.specs.Facts.{IsRequest, IsWorkerAt, carrier}
 use Rattle.lawful_rules.specs.Lawful.{Grounds, LawfulStep, ByPacket}
 use Rattle.once_law.proofs.Lists.{members_push}
 use Rattle.once_law.proofs.Places.{line_at_read, entry_is_there}
 use Rattle.once_law.proofs.Parts.{life, Holds}
-use Rattle.once_law.proofs.Laws.{FrameLaws, RuleLaws, Laws}
+use Rattle.once_law.proofs.Laws.{RuleLaws, Laws}
 use Rattle.once_law.proofs.Arriving.{ComesAs, sent_can_arrive, frame_comes, damaged_frame_comes}
-use Rattle.once_law.proofs.Owning.{CarriesOnly, IsAt}
 use Rattle.once_law.proofs.Works.{works-keeps}
 use Rattle.once_law.proofs.Does.{does-keeps}
 use Rattle.once_law.proofs.Calls.{either, reply_grounds}

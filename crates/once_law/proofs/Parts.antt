@@ -1,5 +1,5 @@
 -- The invariant, as parts: each is a record over exactly what it reads of the world. `Once` follows from them.
-use Rattle.std.proofs.Common.{◌≡◌, ◌≢◌, ℕ, ◌^◌, ◌<◌, ◌≤◌, List, length, map, Option, Some, None, Bool, true, false}
+use Rattle.std.proofs.Common.{◌≡◌, ◌≢◌, ℕ, ◌^◌, ◌<◌, ◌≤◌, List, length, map, Option, Some, None, true, false}
 use Rattle.std.specs.Prelude.{Contains}
 use Rattle.binder.specs.declared.row.ExportRow.{ExportRow}
 use Rattle.rpc_header.specs.declared.Activity.{Activity}
@@ -10,9 +10,9 @@ use Rattle.call_rules.specs.Caller.{is_idle, current_call}
 use Rattle.replay_model.specs.Once.{NoneTwice, call_of_run, call_of_return, sent_since, FailedFor}
 use Rattle.replay_model.specs.Process.{Line}
 use Rattle.replay_model.specs.Record.{Start, Return, Failure, Marked}
-use Rattle.replay_model.specs.World.{World, Client, numbered, packet_at, line_at, entry_at, is_entry_activity}
+use Rattle.replay_model.specs.World.{World, Client, numbered, packet_at, entry_at, is_entry_activity}
 use Rattle.lawful_rules.specs.Known.{Known, known}
-use Rattle.lawful_rules.specs.Facts.{Life, WasStarted, HasReply, HasRun, IsRequest, IsSent, IsEntry, Remembers, carrier, IsWorkerAt, IsLine, IsMarked}
+use Rattle.lawful_rules.specs.Facts.{Life, HasReply, HasRun, IsRequest, IsSent, IsEntry, Remembers, carrier, IsWorkerAt, IsLine, IsMarked}
 use Rattle.lawful_rules.specs.Lawful.{AreRows}
 use Rattle.once_law.proofs.Places.{EachLine}
 

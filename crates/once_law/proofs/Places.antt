@@ -134,18 +134,17 @@ pub packet_cases : (bag : List Packet) (q : Packet) (n : ℕ) (p : Packet) → p
 packet_cases bag q n p h =
     let r = numbered_read 1 (bag ++ q ∷ []) n p h in
     elim (slice_get_push_cases bag q (n - 1) p r.1) [
-      inl old ↦ inl (numbered_at 1 bag n p r.0 old)
-    | inr new ↦ inr (omega (arith, new.0, r.0), new.1)
+      | inl old ↦ inl (numbered_at 1 bag n p r.0 old)
+      | inr new ↦ inr (omega (arith, new.0, r.0), new.1)
     ]
 
 -- a packet that stands in the bag has a number
 pub packet_number : (bag : List Packet) (p : Packet) → Contains bag p → (n : ℕ) × (packet_at bag n ≡ Some p)
-packet_number bag p c =
-    (
-      c.0 + 1,
-      numbered_at 1 bag (c.0 + 1) p (omega arith)
+packet_number bag p c = (
+  c.0 + 1,
+  numbered_at 1 bag (c.0 + 1) p (omega arith)
       (subst (λ k. slice_get bag k ≡ Some p) (omega arith) (slice_get_read bag (length bag) c.0 p refl c.1 (sym c.2))),
-    )
+)
 
 -- One process is written: each process afterwards is one of the others, or the one that was written.
 pub record Rewrites (before after : List Client) (machine process : ℕ) (old new : Line) : Type 0 where
@@ -168,6 +167,6 @@ EachLine clients P = (m p : ℕ) (l : Line) → line_at clients m p ≡ Some l �
 pub rewritten : {before after : List Client} {machine process : ℕ} {old new : Line} → Rewrites before after machine process old new → (P : ℕ → ℕ → Line → Type 0) → ((m p : ℕ) (l : Line) → line_at before m p ≡ Some l → (m ≡ machine → p ≡ process → ⊥) → P m p l) → P machine process new → EachLine after P
 rewritten {before} {after} {machine} {process} {old} {new} h P others own m p l e =
     elim (h.reads m p l e) [
-      inl o ↦ others m p l o.0 o.1
-    | inr n ↦ subst (λ x. P x p l) (sym n.0) (subst (λ y. P machine y l) (sym n.1) (subst (λ z. P machine process z) n.2 own))
+      | inl o ↦ others m p l o.0 o.1
+      | inr n ↦ subst (λ x. P x p l) (sym n.0) (subst (λ y. P machine y l) (sym n.1) (subst (λ z. P machine process z) n.2 own))
     ]

@@ -1,5 +1,5 @@
 -- What a process sent since its last begin or counted packet, after one of its acts: the marks of others change nothing.
-use Rattle.std.proofs.Common.{◌≡◌, ◌≢◌, ℕ, List, [], ◌∷◌, Bool, true, false, cond, eqb, eqb-true, refl, ap, sym, ◌∙◌}
+use Rattle.std.proofs.Common.{◌≡◌, ◌≢◌, ℕ, List, ◌∷◌, Bool, true, cond, eqb, eqb-true, refl, ap, sym, ◌∙◌}
 use Rattle.std.proofs.lemmas.Bool.{eq-eqb, and_parts, and_from, false_from_ne_true}
 use Rattle.rpc_header.specs.declared.Activity.{Activity}
 use Rattle.call_rules.specs.Packet.{is_same_activity}

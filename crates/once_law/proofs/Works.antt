@@ -1,6 +1,6 @@
 -- Each lawful step of a worker keeps the invariant.
-use Rattle.std.proofs.Common.{◌≡◌, ◌≢◌, ◌⊎◌, ℕ, ◌≤◌, List, [], ◌∷◌, ◌++◌, length, map, Option, Some, None, true, false, refl, ap, sym, ◌∙◌, subst, arith, inl, inr}
-use Rattle.std.specs.Prelude.{unwrap_or, Contains}
+use Rattle.std.proofs.Common.{◌≡◌, ℕ, ◌≤◌, List, [], ◌∷◌, ◌++◌, length, map, Option, Some, None, refl, ap, sym, ◌∙◌, subst, arith, inl, inr}
+use Rattle.std.specs.Prelude.{Contains}
 use Rattle.std.proofs.lemmas.Option.{same_Some, none-some}
 use Rattle.std.proofs.lemmas.List.Elements.{Contains-push_cases}
 use Rattle.rpc_header.specs.declared.Activity.{Activity}
@@ -8,17 +8,17 @@ use Rattle.binder.specs.declared.row.ExportRow.{ExportRow}
 use Rattle.call_rules.specs.Packet.{Packet}
 use Rattle.call_rules.specs.Entry.{Entry, word_of}
 use Rattle.call_rules.specs.declared.worker.Did.{Did}
-use Rattle.call_rules.specs.Worker.{Worker, Admitted, Run, Adds, Nothing, ARun, APacket, ARejection, Step}
+use Rattle.call_rules.specs.Worker.{Worker, Run, Adds, Nothing, ARun, APacket, ARejection, Step}
 use Rattle.replay_model.specs.Once.{NoneTwice, call_of_run}
 use Rattle.replay_model.specs.Record.{Start, Return, Failure}
 use Rattle.replay_model.specs.Step.{exchanged, settled, works}
-use Rattle.replay_model.specs.World.{World, Client, numbered, with_numbered, packet_at, entry_at, with_entry}
+use Rattle.replay_model.specs.World.{World, Client, with_numbered, packet_at, entry_at}
 use Rattle.lawful_rules.specs.Known.{Known, Grows, known, next_packet, with_adds}
 use Rattle.lawful_rules.specs.Facts.{Life, IsSent, IsAnswer, IsEntry, Remembers}
-use Rattle.lawful_rules.specs.Lawful.{AreRows, Advances, IsLawfulRun, AreLawfulAdds, LawfulStep}
+use Rattle.lawful_rules.specs.Lawful.{Advances, IsLawfulRun, AreLawfulAdds, LawfulStep}
 use Rattle.once_law.proofs.Lists.{none_twice_push}
 use Rattle.once_law.proofs.Places.{entries_set, length-with_entry, packet_cases}
-use Rattle.once_law.proofs.Parts.{life, Names, Lives, Lines, Marks, Sent, Ready, Workers, RemembersRuns, Entries, IsStartedRun, Told, Holds}
+use Rattle.once_law.proofs.Parts.{life, Names, Lives, Sent, RemembersRuns, Entries, IsStartedRun, Told, Holds}
 use Rattle.once_law.proofs.Grows.{Grows-with_adds, HasRun-grows, IsStartedRun-grows, IsRequest-grows, IsSent-grows, IsEntry-grows, IsLine-grows, IsMarked-grows, FailedFor-grows}
 use Rattle.once_law.proofs.Owning.{AreRunsBack, IsAt, admitted_at, Workers-after}
 
@@ -40,8 +40,8 @@ answer_sent h = record { to_server = λ e. absurd (h.to_client e); to_client = �
 sent_push : (k new : Known) (q : Packet) → Sent k → Grows k new → IsAnswer new (next_packet k) q → (n : ℕ) (p : Packet) → packet_at (k.bag ++ q ∷ []) n ≡ Some p → IsSent new n p
 sent_push k new q h g a n p e =
     elim (packet_cases k.bag q n p e) [
-      inl old ↦ IsSent-grows g (h n p old)
-    | inr x ↦ subst (λ m. IsSent new m p) (sym x.0) (subst (IsSent new (next_packet k)) x.1 (answer_sent a))
+      | inl old ↦ IsSent-grows g (h n p old)
+      | inr x ↦ subst (λ m. IsSent new m p) (sym x.0) (subst (IsSent new (next_packet k)) x.1 (answer_sent a))
     ]
 
 Sent-after : (k : Known) (rows : List (Option ExportRow)) (p : Packet) (v : Worker) (o : Option Entry) (a : Adds) → Sent k → AreLawfulAdds k rows p v o a → Sent (with_adds k rows a)
@@ -73,8 +73,8 @@ Told-after {k} {f} {es} {ws} {i} {v} {p} rows o a returns failures at l h =
     let g = Grows-with_adds k rows a in
     record {
       runs_started = λ r c. elim (runs_back k rows p v o a l r c) [
-        inl old ↦ IsStartedRun-grows g (h.runs_started r old)
-      | inr new ↦ IsStartedRun-grows g (started_run at r new.0)
+        | inl old ↦ IsStartedRun-grows g (h.runs_started r old)
+        | inr new ↦ IsStartedRun-grows g (started_run at r new.0)
       ];
       replies = λ r c. elim (runs_back k rows p v o a l r c) [ inl old ↦ h.replies r old | inr new ↦ new.0.has_reply ];
       runs_once = runs_once_after rows o a at l h.runs_once;
@@ -91,8 +91,8 @@ Lives-after {k} {f} {es} {ws} {i} {v} {p} second rows o a clients at l names h =
       second_fits = h.second_fits;
       rows = h.rows;
       runs_read = λ r c s cs same. elim (runs_back k rows p v o a l r c) [
-        inl old ↦ h.runs_read r old s (starts_back k rows a s cs) same
-      | inr new ↦ read_by r new.0 s (starts_back k rows a s cs) same
+        | inl old ↦ h.runs_read r old s (starts_back k rows a s cs) same
+        | inr new ↦ read_by r new.0 s (starts_back k rows a s cs) same
       ];
     }
   where
@@ -130,17 +130,17 @@ each_after {k} {f} {es} {ws} {i} {v} {p} new (Some y) at g n h b x e =
 remembered_after : {k : Known} {f : Life} {es : List Entry} {ws : List Worker} {i : ℕ} {v : Worker} {p : Packet} {e : Entry} (rows : List (Option ExportRow)) (o : Option Entry) (a : Adds) → IsAt k f es ws i v p e → AreLawfulAdds k rows p v o a → IsNewEntry k (with_adds k rows a) p.header.call.activity e o → Entries k f es → (b : Activity) (x : Entry) → entry_at (exchanged es p.header.call.activity o) b ≡ Some x → RemembersRuns (with_adds k rows a) f b x
 remembered_after {k} {f} {es} {ws} {i} {v} {p} {e} rows None a at l n h b x ex r c same s cs es' boot =
     elim (runs_back k rows p v None a l r c) [
-      inl old ↦ h.remembered b x ex r old same s (starts_back k rows a s cs) es' boot
-    | inr new ↦ subst (λ y. Remembers (word_of y) r.call.number)
-        (same_Some e x (sym at.entry ∙ ap (entry_at es) (ap (λ d. d.activity) (sym new.0.same_call) ∙ same) ∙ ex)) (new_remembered at r new.0)
+      | inl old ↦ h.remembered b x ex r old same s (starts_back k rows a s cs) es' boot
+      | inr new ↦ subst (λ y. Remembers (word_of y) r.call.number)
+          (same_Some e x (sym at.entry ∙ ap (entry_at es) (ap (λ d. d.activity) (sym new.0.same_call) ∙ same) ∙ ex)) (new_remembered at r new.0)
     ]
 remembered_after {k} {f} {es} {ws} {i} {v} {p} {e} rows (Some y) a at l n h b x ex r c same s cs es' boot =
     elim (runs_back k rows p v (Some y) a l r c) [
-      inl old ↦ entries_set (λ d z. r.call.activity ≡ d → Remembers (word_of z) r.call.number) es p.header.call.activity y
-        (λ d z g ne here. h.remembered d z g r old here s (starts_back k rows a s cs) es' boot)
-        (λ here. (n y refl).1 r.call.number (h.remembered p.header.call.activity e at.entry r old here s (starts_back k rows a s cs) es' boot))
-        b x ex same
-    | inr new ↦ absurd (none-some y (sym new.1))
+      | inl old ↦ entries_set (λ d z. r.call.activity ≡ d → Remembers (word_of z) r.call.number) es p.header.call.activity y
+          (λ d z g ne here. h.remembered d z g r old here s (starts_back k rows a s cs) es' boot)
+          (λ here. (n y refl).1 r.call.number (h.remembered p.header.call.activity e at.entry r old here s (starts_back k rows a s cs) es' boot))
+          b x ex same
+      | inr new ↦ absurd (none-some y (sym new.1))
     ]
 
 Entries-after : {k : Known} {f : Life} {es : List Entry} {ws : List Worker} {i : ℕ} {v : Worker} {p : Packet} {e : Entry} (rows : List (Option ExportRow)) (o : Option Entry) (a : Adds) → IsAt k f es ws i v p e → AreLawfulAdds k rows p v o a → IsNewEntry k (with_adds k rows a) p.header.call.activity e o → Entries k f es → Entries (with_adds k rows a) f (exchanged es p.header.call.activity o)
