@@ -1,15 +1,10 @@
 -- The frame that is built around a header and a payload is the packet's frame.
-use Rattle.std.proofs.Common.{◌≡◌, ℕ, ◌+◌, ◌≤◌, List, [], ◌++◌, length, take, drop, replicate, Bool, true, false, IsTrue, cond, leb, refl, ap, sym, subst, ◌∙◌, arith}
-use Rattle.std.specs.Prelude.{not, ◌&&◌, ◌==◌}
-use Rattle.std.proofs.lemmas.List.{append-nil, length-append, length-take}
-use Rattle.std.proofs.lemmas.Bool.Decides.{nat_tests}
+use Rattle.std.proofs.Common.{◌≡◌, ℕ, ◌+◌, ◌≤◌, List, [], ◌++◌, length, take, drop, replicate, ap, sym, ◌∙◌, arith}
+use Rattle.std.proofs.lemmas.List.{append-nil, length-append}
 use Rattle.std.proofs.Math.Seq.{take-length, take-append_seam, drop-append_seam}
 use Rattle.std.proofs.Math.ListN.{drop_of_length-le}
 use Rattle.rpc_header.specs.declared.Header.{Header}
-use Rattle.rpc_header.specs.declared.Kind.{Kind}
-use Rattle.rpc_header.specs.declared.Kind.TheVariants as kind
-use Rattle.rpc_header.specs.Fields.{is_reason}
-use Rattle.rpc_header.specs.Spelling.{HasSpelling, is_short_fragment, spelling}
+use Rattle.rpc_header.specs.Spelling.{spelling}
 use Rattle.udp_frames.specs.Frame.{frame}
 use Rattle.call_rules.specs.Packet.{fields_of}
 use Rattle.replay_model.specs.Arrival.{frame_of, header_of}
@@ -63,21 +58,3 @@ framed_back from to len spelled payload items old buffer rest count e same whole
     (headers_written from to (32 + length payload) (spelled ++ payload) buffer n
     (w ∙ ap (λ (xs : List ℕ). frame from to (take (32 + length payload) (drop 42 xs)) ++ drop (42 + (32 + length payload)) xs) (same ∙ e)))
     (omega (arith, whole, all, n, frame_length from to (spelled ++ payload)))
-
--- the header of a reply's first piece has a spelling
-pub reply_spelled : (h : Header) (signal : Bool) (reply front : List ℕ) → h.kind ≡ cond signal kind.Signal kind.Result → h.reason ≡ 0 → h.last ≡ leb (length reply) 1440 → h.fragment ≡ 0 → front ≡ take 1440 reply → HasSpelling h (length front)
-reply_spelled h signal reply front k r l f e =
-    record {
-      reason = either_kind signal (λ x. IsTrue (is_reason x h.reason)) k (subst (λ (n : ℕ). IsTrue (is_reason kind.Signal n)) (sym r) refl) (subst (λ (n : ℕ). IsTrue (is_reason kind.Result n)) (sym r) refl);
-      data_length = omega (arith, ap length e, length-take 1440 reply);
-      fullness = either_kind signal (λ x. IsTrue (not (is_short_fragment x h.last (length front)))) k full full;
-      fragment = omega (arith, f);
-    }
-  where
-    either_kind : (s : Bool) (P : Kind → Type 0) → h.kind ≡ cond s kind.Signal kind.Result → P kind.Signal → P kind.Result → P h.kind
-    either_kind true P e x y = subst P (sym e) x
-    either_kind false P e x y = subst P (sym e) y
-
-    -- a piece that isn't the last is full
-    full : IsTrue (not (not h.last && not (length front == 1440)))
-    full = grind (arith, nat_tests, l, ap length e, length-take 1440 reply)

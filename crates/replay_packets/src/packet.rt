@@ -1,6 +1,8 @@
 //! Packets that have come to a machine.
 
-ghost use Rattle.std.specs.Prelude.{◌≡◌, ◌≤◌, length, take, IfOk, MatchResult, if◌then◌else◌};
+ghost use Rattle.std.specs.Prelude.{◌≡◌, ◌≤◌, ◌<◌, length, IfOk, MatchResult};
+ghost use Rattle.rpc_header.specs.Spelling.{HasSpelling};
+ghost use Rattle.rpc_header.specs.Versions.{fragments_in};
 ghost use Rattle.call_rules.specs.Packet.{fields_of};
 ghost use Rattle.call_rules.specs.Worker as rules;
 ghost use Rattle.replay_model.specs.Arrival as model;
@@ -43,6 +45,7 @@ pub fn arrive(me: Station, frame: &[u8]) -> Result<Arrived<'_>, Discard>
         (λ packet. model.arrives me.machine frame.now ≡ model.Comes (packet_of packet))
         (λ why. model.arrives me.machine frame.now ≡ model.Dropped why) }
     ensures here { IfOk result (λ packet. packet.to.machine ≡ me.machine) }
+    ensures spelled { IfOk result (λ packet. HasSpelling packet.header (length packet.payload.now)) }
     ensures short { IfOk result (λ packet. length packet.payload.now ≤ MAX_DATA) }
 {
     let seen = read_frame(frame, me)?;
@@ -82,8 +85,8 @@ fn calling_machine(me: Station, from: Station) -> Station
     if me == SERVER { from } else { me }
 }
 
-/// A packet that the server keeps, apart from the frame that it came in. It has at most `MAX_DATA` bytes of
-/// data.
+/// A packet that the server keeps, apart from the frame that it came in. Its header has a spelling with its data
+/// behind it, so it has at most `MAX_DATA` bytes of data.
 #[derive(Drop)]
 pub struct Packet {
     from: Station,
@@ -93,20 +96,21 @@ pub struct Packet {
 }
 
 impl Model for Packet {
-    ghost use Rattle.std.specs.Prelude.{◌≤◌, length};
-    ghost use Rattle.call_rules.specs.Packet.{Packet, fields_of, piece_size};
+    ghost use Rattle.std.specs.Prelude.{length};
+    ghost use Rattle.rpc_header.specs.Spelling.{HasSpelling};
+    ghost use Rattle.call_rules.specs.Packet.{Packet, fields_of};
 
     ghost Value = { Packet };
 
     ghost view = { λ p. record { from = p.from.machine; to = p.to.machine; header = fields_of p.header; payload = p.payload.items } };
 
-    ghost invariant = { λ p. length p.payload.items ≤ piece_size };
+    ghost invariant = { λ p. HasSpelling p.header (length p.payload.items) };
 }
 
 impl Packet {
     /// A packet that was read, taken out of its frame: its data is copied. `Err` only where memory is short.
     pub fn kept(alloc: Global, arrived: &Arrived) -> Result<Self, AllocError>
-        requires { length arrived.now.payload.now ≤ MAX_DATA }
+        requires { HasSpelling arrived.now.header (length arrived.now.payload.now) }
         ensures { IfOk result (λ packet. packet ≡ packet_of arrived.now) }
     {
         Ok(Packet {
@@ -119,7 +123,8 @@ impl Packet {
 
     /// Its header.
     pub fn header(&self) -> &Header
-        ensures { fields_of result.now ≡ self.now.header }
+        ensures fields { fields_of result.now ≡ self.now.header }
+        ensures fragment { result.now.fragment < fragments_in result.now }
     {
         &self.header
     }
@@ -132,41 +137,17 @@ impl Packet {
         self.payload.as_slice()
     }
 
-    /// The first piece of the reply to this packet's call, which comes as a signal or as a result, in its
-    /// frame. It goes back to where the packet came from; of a reply of more than `MAX_DATA` bytes it has the
-    /// first `MAX_DATA`, is not the last piece and asks for an acknowledgement. `Err` only where memory is short.
-    pub fn reply(&self, alloc: Global, signal: bool, reply: &[u8]) -> Result<Outgoing, AllocError>
-        ensures { IfOk result (λ packet. packet ≡ rules.reply_packet self.now (record { signal = signal; reply = reply.now })) }
+    /// A packet with this header and this data that goes back to where this one came from, in its frame. `Err`
+    /// only where memory is short.
+    pub fn answer(
+        &self,
+        alloc: Global,
+        header: Header,
+        payload: &[u8],
+    ) -> Result<Outgoing, AllocError>
+        requires { HasSpelling header (length payload.now) }
+        ensures { IfOk result (λ packet. packet ≡ rules.answer_to self.now (fields_of header) payload.now) }
     {
-        let is_whole = reply.len() <= MAX_DATA;
-        let header = Header {
-            kind: reply_kind(signal),
-            please_ack: !is_whole,
-            last: is_whole,
-            reason: 0,
-            call: self.header.call,
-            hint: self.header.hint,
-            fragment: 0,
-            export: self.header.export,
-            procedure: self.header.procedure,
-        };
-        Outgoing::new(alloc, self.to, self.from, header, front(reply, MAX_DATA))
-    }
-}
-
-fn reply_kind(signal: bool) -> Kind
-    ensures { result ≡ (if signal then Kind.Signal else Kind.Result) }
-{
-    if signal { Kind::Signal } else { Kind::Result }
-}
-
-/// At most so many bytes of the front of a text.
-fn front(text: &[u8], most: usize) -> &[u8]
-    ensures front { result.now ≡ take most text.now }
-{
-    if text.len() > most {
-        &text[..most]
-    } else {
-        text
+        Outgoing::new(alloc, self.to, self.from, header, payload)
     }
 }

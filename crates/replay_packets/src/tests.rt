@@ -180,47 +180,23 @@ fn kept_call(alloc: Global) -> Result<Packet, Fail> {
 }
 
 #[test]
-fn a_long_reply_is_cut(rt: HostRuntime) -> Result<(), Fail> {
-    let alloc = rt.alloc();
-    let call = kept_call(alloc)?;
-    let mut reply = [0; 1441];
-    reply[0] = 1;
-    reply[1439] = 2;
-    reply[1440] = 3;
-    let piece = call.reply(alloc, false, &reply)?;
-    assert_eq!(rt;
-        (piece.from(), piece.to(), piece.payload_len()),
-        (SERVER, CLIENT, 1440)
-    );
-    let Header {
-        kind,
-        please_ack,
-        last,
-        fragment,
-        ..
-    } = *piece.header();
-    assert_eq!(rt;
-        (kind, please_ack, last, fragment),
-        (Kind::Result, true, false, 0)
-    );
-    let sent = piece.sent();
-    assert_eq!(rt; sent.frame().get(74..), reply.get(..1440));
-    Ok(())
-}
-
-#[test]
-fn a_short_signal_is_whole(rt: HostRuntime) -> Result<(), Fail> {
+fn an_answer_goes_back(rt: HostRuntime) -> Result<(), Fail> {
     let alloc = rt.alloc();
     let call = kept_call(alloc)?;
     assert_eq!(rt; (call.header().kind, call.payload().len()), (Kind::Call, 0));
-    let whole = call.reply(alloc, true, &[0, 1])?;
-    assert_eq!(rt; whole.payload_len(), 2);
-    let Header {
-        kind,
-        please_ack,
-        last,
-        ..
-    } = *whole.header();
-    assert_eq!(rt; (kind, please_ack, last), (Kind::Signal, false, true));
+    let header = Header {
+        kind: Kind::Signal,
+        ..*call.header()
+    };
+    if !fits(&header, 2) {
+        return Err("a header that fits".into());
+    }
+    let answer = call.answer(alloc, header, &[0, 1])?;
+    assert_eq!(rt;
+        (answer.from(), answer.to(), answer.payload_len()),
+        (SERVER, CLIENT, 2)
+    );
+    assert_eq!(rt; answer.header().kind, Kind::Signal);
+    assert_eq!(rt; answer.sent().frame().get(74..), Some([0, 1].as_slice()));
     Ok(())
 }

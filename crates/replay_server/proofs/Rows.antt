@@ -1,0 +1,45 @@
+-- Steps that are rows' steps.
+use Rattle.std.proofs.Common.{◌≡◌, ℕ, List, ◌++◌, Option, None, Bool, true, false, ap, sym, subst, ◌∙◌}
+use Rattle.std.specs.Prelude.{unwrap_or}
+use Rattle.std.proofs.lemmas.Bool.{cond-true, cond-false}
+use Rattle.rpc_header.specs.declared.Kind.{Kind}
+use Rattle.call_rules.specs.Packet.{Packet}
+use Rattle.call_rules.specs.Entry.{Entry, Word, word_of, is_same_word, judge}
+use Rattle.call_rules.specs.declared.entry.Judged.{Judged}
+use Rattle.call_rules.specs.declared.worker.Unfit.TheVariants as unfit
+use Rattle.call_rules.specs.Worker.{Asked, admits, on_due, drops, on_idle, on_kind, on_claimed, on_judged_claim}
+use Rattle.call_rules.specs.Worker as rules
+use Rattle.replay_server.specs.Rules.{Keeps, Exchanges}
+use Rattle.replay_server.specs.declared.step.Step.{Step}
+
+pub keeps_as : (a b : rules.Step) (step : Step) → a ≡ b → Keeps a step → Keeps b step
+keeps_as a b step e h = subst (λ (row : rules.Step). Keeps row step) e h
+
+pub exchanges_as : (a b : rules.Step) (old new : Entry) (step : Step) → a ≡ b → Exchanges a old new step → Exchanges b old new step
+exchanges_as a b old new step e h = subst (λ (row : rules.Step). Exchanges row old new step) e h
+
+-- a row that leaves the entry
+pub keeps_entry : (row : rules.Step) (e : Entry) (step : Step) → Keeps row step → Exchanges row e e step
+keeps_entry row e step h =
+    record { worker = h.worker; entry = ap (λ (o : Option Entry). unwrap_or o e) (sym h.entry); did = h.did; adds = h.adds }
+
+-- an idle worker's row, by the packet's kind
+pub idle_as : (asked : Asked) (e : Option Entry) (p : Packet) (k : Kind) → k ≡ p.header.kind → on_kind k asked e p ≡ on_idle asked e p
+unfolding on_idle
+idle_as asked e p k h = ap (λ (x : Kind). on_kind x asked e p) h
+
+-- the row of a claimed packet whose entry has changed since
+pub claim_lost : (long : Bool) (p : Packet) (seen : Word) (e : Entry) → is_same_word (word_of e) seen ≡ false → drops unfit.Lost ≡ on_claimed long p seen e
+unfolding on_claimed
+claim_lost long p seen e h = sym (cond-false _ _ _ h)
+
+-- the row of a claimed packet, by its judgement
+pub claim_judged : (long : Bool) (p : Packet) (seen : Word) (e : Entry) (j : Judged) → is_same_word (word_of e) seen ≡ true → j ≡ judge seen p.header → on_judged_claim j long p e ≡ on_claimed long p seen e
+unfolding on_claimed
+claim_judged long p seen e j same h =
+    ap (λ (x : Judged). on_judged_claim x long p e) h ∙ sym (cond-true _ _ _ same)
+
+-- the row of the piece that is due and is the last
+pub due_last : (p : Packet) (n : ℕ) (bytes payload whole : List ℕ) (next : ℕ) → p.header.last ≡ true → payload ≡ p.payload → whole ≡ bytes ++ payload → admits p whole ≡ on_due p n bytes next
+due_last p n bytes payload whole next last same added =
+    ap (λ (xs : List ℕ). admits p xs) (added ∙ ap (λ (xs : List ℕ). bytes ++ xs) same) ∙ sym (cond-true _ _ _ last)

@@ -1,0 +1,5 @@
+pub mod Entry
+pub mod Rules
+pub mod Service
+pub mod Stepped
+pub mod Worker

@@ -1,0 +1,28 @@
+-- A worker as the rules see it.
+use Rattle.std.specs.Prelude.{ℕ, List, Option, Some, None}
+use Rattle.call_rules.specs.Packet.{Packet}
+use Rattle.call_rules.specs.Entry.{word_seen}
+use Rattle.call_rules.specs.Worker as rules
+use Rattle.replay_server.specs.declared.worker.Arguments.{Arguments}
+use Rattle.replay_server.specs.declared.worker.Arguments.TheVariants as arguments
+use Rattle.replay_server.specs.declared.worker.Stage.{Stage}
+use Rattle.replay_server.specs.declared.worker.Stage.TheVariants as stage
+use Rattle.replay_server.specs.declared.worker.Task.{Task}
+use Rattle.replay_server.specs.Service.{answer_of}
+
+-- the arguments of an admitted call, whose carrier has this data
+abbrev pub arguments_in : Arguments → (payload : List ℕ) → List ℕ
+arguments_in arguments.Carried payload = payload
+arguments_in (arguments.Gathered pieces) payload = pieces.bytes.items
+
+-- a worker that holds a packet
+abbrev pub worker_at : Packet → Stage → rules.Worker
+worker_at p (stage.Claimed seen) = rules.Claimed p (word_seen seen)
+worker_at p stage.Took = rules.Took p
+worker_at p (stage.Admitted arguments) = rules.Admitted p (arguments_in arguments p.payload)
+worker_at p (stage.Ran answer) = rules.Ran p (answer_of answer)
+worker_at p stage.Fetched = rules.Fetched p
+
+abbrev pub worker_of : Option Task → rules.Worker
+worker_of None = rules.Resting
+worker_of (Some task) = worker_at task.carrier task.stage

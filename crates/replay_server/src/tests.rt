@@ -1,0 +1,191 @@
+//! What no row has: binds, refused calls, entries that aren't there, the list of ready packets, long replies in
+//! pieces, and the test service.
+
+use crate::entry::{Entry, EntryState};
+use crate::service::serve;
+use crate::step::Adds;
+use crate::task_rules::on_task;
+use crate::texts::Answer;
+use crate::trial::{
+    Added, CLIENT, Piece, SERVICE, Sent, ack, booted, call, header_of, plain, probe, sent, take,
+    told,
+};
+use crate::worker::{Stage, Task};
+use crate::{ServerMachine, Worked};
+use call_rules::{Did, Unfit};
+use ff_io::Station;
+use replay_packets::{Outgoing, Packet, SERVER, arrive};
+use rpc_header::{Activity, CallId, Export, Header, Kind, fits, number};
+use std::alloc::Global;
+use std::test::Fail;
+
+/// The export that a Bind has, and a Bound that found none.
+const NO_EXPORT: Export = Export {
+    identifier: 0,
+    index: 0,
+};
+
+/// A Bind with this data comes, and worker 1 does a step.
+fn bind(alloc: Global, name: &[u8]) -> Result<Option<(Did, Added)>, Fail> {
+    let mut server = booted(alloc)?;
+    let header = Header {
+        kind: Kind::Bind,
+        export: NO_EXPORT,
+        ..header_of(call(65536))?
+    };
+    if !take(alloc, &mut server, CLIENT, header, name)? {
+        return Err("room".into());
+    }
+    Ok(told(server.work(alloc, 1)?))
+}
+
+#[test]
+fn a_bind_is_answered(rt: HostRuntime) -> Result<(), Fail> {
+    let found = plain(Kind::Bound, 0);
+    let unknown = Sent {
+        reason: 1,
+        export: NO_EXPORT,
+        ..found
+    };
+    let step = bind(rt.alloc(), b"\x04Test\x04main")?;
+    assert_eq!(rt; step, Some((Did::Answers, Added::Packet(found))));
+    let step = bind(rt.alloc(), b"\x04Test\x03aux")?;
+    assert_eq!(rt; step, Some((Did::Answers, Added::Packet(unknown))));
+    let bad = Some((Did::Drops(Unfit::BadName), Added::Nothing));
+    for data in [
+        b"".as_slice(),
+        b"\x04Test",
+        b"\x04Test\x00",
+        b"\x04Test\x04main\x00",
+        b"\x04Test\x05main",
+        b"\x04Te-t\x04main",
+    ] {
+        assert_eq!(rt; bind(rt.alloc(), data)?, bad, "{data:?}");
+    }
+    Ok(())
+}
+
+/// A whole call, or what else the piece is, by a binding and for a procedure comes, and worker 1 does a step.
+fn ask(
+    alloc: Global,
+    piece: Piece,
+    export: Export,
+    procedure: u16,
+) -> Result<Option<(Did, Added)>, Fail> {
+    let mut server = booted(alloc)?;
+    let header = Header {
+        export,
+        procedure,
+        ..header_of(piece)?
+    };
+    if !take(alloc, &mut server, CLIENT, header, &[])? {
+        return Err("room".into());
+    }
+    Ok(told(server.work(alloc, 1)?))
+}
+
+#[test]
+fn calls_that_the_exports_refuse(rt: HostRuntime) -> Result<(), Fail> {
+    let later = Export {
+        identifier: 2,
+        index: 0,
+    };
+    let elsewhere = Export {
+        identifier: 1,
+        index: 1,
+    };
+    for piece in [call(65536), ack(65536, 0), probe(65536)] {
+        for export in [later, elsewhere, NO_EXPORT] {
+            let reject = Sent {
+                reason: 1,
+                export,
+                ..plain(Kind::Reject, 0)
+            };
+            let step = ask(rt.alloc(), piece, export, 0)?;
+            assert_eq!(rt; step, Some((Did::Rejects(1), Added::Rejection(reject))));
+        }
+        let reject = Sent {
+            reason: 2,
+            ..plain(Kind::Reject, 0)
+        };
+        let step = ask(rt.alloc(), piece, SERVICE, 5)?;
+        assert_eq!(rt; step, Some((Did::Rejects(2), Added::Rejection(reject))));
+    }
+    let step = ask(rt.alloc(), call(65536), SERVICE, 4)?;
+    assert_eq!(rt; step, Some((Did::Claims, Added::Nothing)));
+    Ok(())
+}
+
+#[test]
+fn activities_without_an_entry(rt: HostRuntime) -> Result<(), Fail> {
+    let alloc = rt.alloc();
+    let last = Some((Did::Claims, Added::Nothing));
+    let full = Some((Did::Drops(Unfit::Full), Added::Nothing));
+    for (machine, process, step) in [
+        (2, 8, last),
+        (9, 1, last),
+        (9, 8, last),
+        (2, 0, full),
+        (2, 9, full),
+        (10, 1, full),
+        (1, 1, full),
+    ] {
+        let mut server = booted(alloc)?;
+        let number = number(65536).ok_or("a call number")?;
+        let activity = Activity {
+            machine: u32::from(machine),
+            process,
+        };
+        let header = Header {
+            call: CallId { activity, number },
+            ..header_of(call(65536))?
+        };
+        let from = Station { machine };
+        assert!(rt; take(alloc, &mut server, from, header, &[])?);
+        assert_eq!(rt; told(server.work(alloc, 1)?), step, "{machine}.{process}");
+    }
+    Ok(())
+}
+
+#[test]
+fn at_most_64_packets_are_ready(rt: HostRuntime) -> Result<(), Fail> {
+    let alloc = rt.alloc();
+    let mut server = booted(alloc)?;
+    assert!(rt; matches!(server.work(alloc, 4)?, Worked::Idle));
+    assert!(rt; matches!(server.work(alloc, 5)?, Worked::Impossible));
+    let header = header_of(call(65536))?;
+    for _packet in 0..64 {
+        assert!(rt; take(alloc, &mut server, CLIENT, header, &[])?);
+    }
+    assert!(rt; !take(alloc, &mut server, CLIENT, header, &[])?);
+    assert!(rt; matches!(server.work(alloc, 4)?, Worked::Step(_)));
+    assert!(rt; take(alloc, &mut server, CLIENT, header, &[])?);
+    Ok(())
+}
+
+/// What an acknowledgement of this piece of a kept reply has sent.
+fn fetch(alloc: Global, fragment: u16, reply: &[u8]) -> Result<(Did, Option<Sent>), Fail> {
+    let header = header_of(ack(65536, fragment))?;
+    let packet = Outgoing::new(alloc, CLIENT, SERVER, header, &[])?.sent();
+    let Ok(arrived) = arrive(SERVER, packet.frame()) else {
+        return Err("a packet that arrives".into());
+    };
+    let task = Task {
+        carrier: Packet::kept(alloc, &arrived)?,
+        stage: Stage::Fetched,
+    };
+    let answer = Answer {
+        signal: false,
+        reply: Vec::from_slice(alloc, reply)?,
+    };
+    let mut entry = Entry::new(EntryState::Sending {
+        number: header.call.number,
+        answer,
+    });
+    let step = on_task(alloc, &mut 0, task, &mut entry)?;
+    let packet = match step.adds {
+        Adds::Packet(packet) => Some(sent(&packet)),
+        _ => None,
+    };
+    Ok((step.did, packet))
+}
