@@ -9,31 +9,31 @@ use Rattle.call_rules.specs.Caller as rules
 use Rattle.call_rules.specs.Caller.{Caller, State, Step, row, unused, current_call, first_sending, acknowledgement, on_ack, on_result, on_signal, on_reject, on_bound, on_own_packet, on_packet}
 
 pub record Leaves (c : Caller) (s : Step) : Type 0 where
-  pub number : s.caller.number ≡ c.number
+  pub call : current_call s.caller ≡ current_call c
   pub unused : s.act ≡ rules.Unused → s.caller ≡ c
 
 no_row : (c : Caller) → Leaves c (unused c)
-no_row c = record { number = refl; unused = λ _. refl }
+no_row c = record { call = refl; unused = λ _. refl }
 
 -- a row, by its act
 sends : (c : Caller) (s : State) (h : Fields) (piece : Option ℕ) → Leaves c (row c s 1 0 (rules.Send h piece))
-sends c s h piece = record { number = refl; unused = λ e. cc }
+sends c s h piece = record { call = refl; unused = λ e. cc }
 
 waits : (c : Caller) → Leaves c (row c rules.Waiting 0 0 rules.TellsWaiting)
-waits c = record { number = refl; unused = λ e. cc }
+waits c = record { call = refl; unused = λ e. cc }
 
 keeps : (c : Caller) (s : State) (h : Fields) → Leaves c (row c s 1 0 (rules.Keep h))
-keeps c s h = record { number = refl; unused = λ e. cc }
+keeps c s h = record { call = refl; unused = λ e. cc }
 
 ends : (c : Caller) (signal : Bool) → Leaves c (row c rules.Idle 0 0 (rules.Last signal))
-ends c signal = record { number = refl; unused = λ e. cc }
+ends c signal = record { call = refl; unused = λ e. cc }
 
 refused : (c : Caller) (reason : ℕ) → Leaves c (row c rules.Idle 0 0 (rules.Refused reason))
-refused c reason = record { number = refl; unused = λ e. cc }
+refused c reason = record { call = refl; unused = λ e. cc }
 
 answered : (c : Caller) (b : Bool) (export : Export) → Leaves c (row c rules.Idle 0 0 (cond b (rules.Bound export) rules.Unbound))
-answered c true export = record { number = refl; unused = λ e. cc }
-answered c false export = record { number = refl; unused = λ e. cc }
+answered c true export = record { call = refl; unused = λ e. cc }
+answered c false export = record { call = refl; unused = λ e. cc }
 
 either : {c : Caller} (b : Bool) (x y : Step) → Leaves c x → Leaves c y → Leaves c (cond b x y)
 either {c} true x y p q = p
@@ -78,8 +78,8 @@ of_own_packet c s _ h = no_row c
 of_packet : (c : Caller) (h : Fields) → Leaves c (on_packet c h)
 of_packet c h = either (is_same_call h.call (current_call c)) _ _ (of_own_packet c c.state h.kind h) (no_row c)
 
-pub same_number : (c : Caller) (h : Fields) → (on_packet c h).caller.number ≡ c.number
-same_number c h = (of_packet c h).number
+pub same_call : (c : Caller) (h : Fields) → current_call (on_packet c h).caller ≡ current_call c
+same_call c h = (of_packet c h).call
 
 pub unused_keeps : (c : Caller) (h : Fields) → (on_packet c h).act ≡ rules.Unused → (on_packet c h).caller ≡ c
 unused_keeps c h = (of_packet c h).unused

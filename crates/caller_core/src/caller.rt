@@ -4,6 +4,8 @@ ghost use Rattle.std.specs.Prelude.{◌≡◌, ◌≤◌, Some, true, false};
 ghost use Rattle.call_rules.specs.Packet.{call_of, fields_of, is_same_call};
 ghost use Rattle.call_rules.specs.Caller as rules;
 
+mod headers;
+
 use crate::action::Action;
 use crate::state::State;
 use call_rules::{QUIET_TICKS, TRIES};
@@ -71,11 +73,21 @@ impl Caller {
         }
     }
 
-    /// The same caller once more, to try a step on.
-    pub fn copied(&self) -> Self
-        ensures { result ≡ self.now }
+    /// The call that it made last, or the bind. Before the first, the call of number 0.
+    pub fn call(&self) -> CallId
+        ensures { call_of result ≡ rules.current_call self.now }
     {
-        Caller { ..*self }
+        CallId {
+            activity: self.activity,
+            number: self.number,
+        }
+    }
+
+    /// Whether a bind is open.
+    pub fn is_binding(&self) -> bool
+        ensures { result ≡ rules.is_binding self.now.state }
+    {
+        matches!(self.state, State::Binding)
     }
 
     /// Whether no call and no bind is open.
@@ -120,11 +132,11 @@ impl Caller {
     }
 
     /// Takes a packet. One that the caller's table has no row for is unused, and changes nothing.
-    #[tactic(auto, using(crate::proofs::Rows::same_number, crate::proofs::Rows::unused_keeps))]
+    #[tactic(auto, using(crate::proofs::Rows::same_call, crate::proofs::Rows::unused_keeps))]
     pub fn on_packet(&mut self, header: &Header) -> Action
         ensures caller { self.new ≡ (rules.on_packet self.old (fields_of header.now)).caller }
         ensures act { act_of result ≡ (rules.on_packet self.old (fields_of header.now)).act }
-        ensures same_call { self.new.number ≡ self.old.number }
+        ensures same_call { rules.current_call self.new ≡ rules.current_call self.old }
         ensures unused { act_of result ≡ rules.Unused → self.new ≡ self.old }
     {
         if !self.is_current(header.call) {
@@ -324,86 +336,5 @@ impl Caller {
         self.state = state;
         self.tries = tries;
         self.ticks = 0;
-    }
-}
-
-/// What a caller sends. Each packet names the caller's call and cell.
-impl Caller {
-    ghost use Rattle.caller_core.specs.Action.{act_of};
-
-    fn first_sending(&self, piece: u16) -> Header
-        ensures { fields_of result ≡ rules.first_sending self.now piece }
-    {
-        let last = piece == self.last_piece;
-        Header {
-            please_ack: !last,
-            last,
-            ..self.header(Kind::Call, piece)
-        }
-    }
-
-    fn acknowledgement(&self, piece: u16) -> Header
-        ensures { fields_of result ≡ rules.acknowledgement self.now piece }
-    {
-        self.header(Kind::Ack, piece)
-    }
-
-    fn bind(&self) -> Header
-        ensures { fields_of result ≡ rules.bind self.now }
-    {
-        Header {
-            export: NO_EXPORT,
-            procedure: 0,
-            ..self.header(Kind::Bind, 0)
-        }
-    }
-
-    fn sent_again(&self) -> Action
-        ensures { act_of result ≡ rules.sent_again self.now self.now.state }
-    {
-        let (header, piece) = match self.state {
-            State::Idle => return Action::Unused,
-            State::Sending(piece) => (asking(self.first_sending(piece)), Some(piece)),
-            State::Waiting => (self.probe(), None),
-            State::Receiving { kept } => (self.acknowledgement(kept), None),
-            State::Binding => (self.bind(), Some(0)),
-        };
-        Action::Send { header, piece }
-    }
-
-    fn probe(&self) -> Header
-        ensures { fields_of result ≡ rules.probe self.now }
-    {
-        asking(self.header(Kind::Probe, self.last_piece))
-    }
-
-    /// A header that asks for nothing, of the only or last piece.
-    fn header(&self, kind: Kind, fragment: u16) -> Header
-        ensures { fields_of result ≡ rules.caller_header self.now kind false true fragment }
-    {
-        Header {
-            kind,
-            please_ack: false,
-            last: true,
-            reason: 0,
-            call: CallId {
-                activity: self.activity,
-                number: self.number,
-            },
-            hint: self.hint,
-            fragment,
-            export: self.export,
-            procedure: self.procedure,
-        }
-    }
-}
-
-/// The same packet, which asks for an acknowledgement.
-fn asking(header: Header) -> Header
-    ensures { fields_of result ≡ record (fields_of header) { please_ack = true } }
-{
-    Header {
-        please_ack: true,
-        ..header
     }
 }

@@ -1,0 +1,5 @@
+pub mod Boot
+pub mod Rows
+pub mod Steps
+pub mod Numbered
+pub mod Outcomes

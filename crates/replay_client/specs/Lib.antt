@@ -1,0 +1,4 @@
+pub mod Told
+pub mod Task
+pub mod Sound
+pub mod Client

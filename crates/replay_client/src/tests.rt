@@ -1,0 +1,139 @@
+//! A client machine, by its public calls.
+
+use crate::{Called, ClientMachine, Said, Took, arguments_of, procedure_of};
+use ff_io::Station;
+use replay_model::{CallWord, Discard};
+use replay_packets::{Arrived, SERVER};
+use rpc_header::{Header, Kind, fits};
+use std::alloc::Global;
+use std::test::Fail;
+
+const CLIENT: Station = Station { machine: 2 };
+
+#[test]
+fn calls_ask_for_procedures_with_marshalled_numbers(rt: HostRuntime) -> Result<(), Fail> {
+    let alloc = rt.alloc();
+    let add = CallWord::Add(1, 0x0203_0405);
+    assert!(rt;
+        procedure_of(CallWord::Null) == 0 && arguments_of(alloc, CallWord::Null)?.is_empty()
+    );
+    assert!(rt; procedure_of(add) == 1);
+    assert!(rt; arguments_of(alloc, add)?.as_slice() == [0, 0, 0, 1, 2, 3, 4, 5].as_slice());
+    assert!(rt; procedure_of(CallWord::Bump(7)) == 2);
+    assert!(rt; arguments_of(alloc, CallWord::Bump(7))?.as_slice() == [0, 0, 0, 7].as_slice());
+    Ok(())
+}
+
+/// The header of the packet that a process sends about a start, or an error.
+fn call(client: &mut ClientMachine, alloc: Global, process: u8) -> Result<Header, Fail> {
+    if process == 0 {
+        return Err("a process".into());
+    }
+    match client.call(alloc, CLIENT, process, CallWord::Null, 1)? {
+        Called::Starts(told) => match told.said {
+            Said::Sends(packet) => Ok(*packet.header()),
+            _ => Err("a packet".into()),
+        },
+        Called::Impossible => Err("impossible".into()),
+        Called::TooFast(_) => Err("too fast".into()),
+    }
+}
+
+/// What a client does about a packet without data.
+fn take(client: &mut ClientMachine, alloc: Global, header: Header) -> Result<Took, Fail> {
+    if !fits(&header, 0) {
+        return Err("a packet that fits".into());
+    }
+    let packet = Arrived {
+        from: SERVER,
+        to: CLIENT,
+        header,
+        payload: &[],
+    };
+    Ok(client.take(alloc, &packet)?)
+}
+
+#[test]
+fn an_empty_call_returns_once(rt: HostRuntime) -> Result<(), Fail> {
+    let alloc = rt.alloc();
+    let mut client = ClientMachine::boot(alloc, 1, 2)?;
+    let header = call(&mut client, alloc, 8)?;
+    assert_eq!(rt;
+        (header.kind, header.please_ack, header.last),
+        (Kind::Call, false, true)
+    );
+    assert_eq!(rt; (header.hint, header.procedure), (7, 0));
+    assert_eq!(rt; header.call.number.value, 65536);
+    let called = client.call(alloc, CLIENT, 8, CallWord::Null, 1)?;
+    assert!(rt; matches!(called, Called::Impossible));
+    let reply = Header {
+        kind: Kind::Result,
+        ..header
+    };
+    let Took::Hears(told) = take(&mut client, alloc, reply)? else {
+        return Err("a reply".into());
+    };
+    assert!(rt; told.call == header.call);
+    assert!(rt; matches!(told.said, Said::Returned { signal: false, .. }));
+    let again = take(&mut client, alloc, reply)?;
+    assert!(rt; matches!(again, Took::Dropped(Discard::Stale)));
+    assert_eq!(rt; call(&mut client, alloc, 8)?.call.number.value, 65537);
+    Ok(())
+}
+
+#[test]
+fn packets_that_no_process_waits_for_are_dropped(rt: HostRuntime) -> Result<(), Fail> {
+    let alloc = rt.alloc();
+    let mut client = ClientMachine::boot(alloc, 1, 2)?;
+    let header = call(&mut client, alloc, 1)?;
+    let reply = Header {
+        kind: Kind::Result,
+        hint: 8,
+        ..header
+    };
+    let took = take(&mut client, alloc, reply)?;
+    assert!(rt; matches!(took, Took::Dropped(Discard::NoCell)));
+    let took = take(&mut client, alloc, Header { hint: 1, ..reply })?;
+    assert!(rt; matches!(took, Took::Dropped(Discard::Stale)));
+    let ack = Header {
+        kind: Kind::Ack,
+        fragment: 1,
+        ..header
+    };
+    let took = take(&mut client, alloc, ack)?;
+    assert!(rt; matches!(took, Took::Dropped(Discard::Unused)));
+    Ok(())
+}
+
+#[test]
+fn starts_that_are_impossible_or_too_fast(rt: HostRuntime) -> Result<(), Fail> {
+    let alloc = rt.alloc();
+    let mut client = ClientMachine::boot(alloc, 1, 2)?;
+    let called = client.call(alloc, CLIENT, 9, CallWord::Null, 1)?;
+    assert!(rt; matches!(called, Called::Impossible));
+    let called = client.call(alloc, CLIENT, 1, CallWord::Null, 0)?;
+    assert!(rt; matches!(called, Called::TooFast(65536)));
+    Ok(())
+}
+
+#[test]
+fn a_process_sends_its_call_again_at_the_fourth_tick(rt: HostRuntime) -> Result<(), Fail> {
+    let alloc = rt.alloc();
+    let mut client = ClientMachine::boot(alloc, 1, 2)?;
+    assert!(rt; client.tick(alloc, CLIENT, 9)?.is_none());
+    let header = call(&mut client, alloc, 1)?;
+    for _ in 0..3 {
+        let told = client.tick(alloc, CLIENT, 1)?.ok_or("a process")?;
+        assert!(rt; matches!(told.said, Said::Nothing));
+    }
+    let told = client.tick(alloc, CLIENT, 1)?.ok_or("a process")?;
+    let Said::Sends(packet) = told.said else {
+        return Err("a packet".into());
+    };
+    let again = Header {
+        please_ack: true,
+        ..header
+    };
+    assert!(rt; *packet.header() == again);
+    Ok(())
+}
