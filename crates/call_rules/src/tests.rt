@@ -1,11 +1,4 @@
-//! The judgement's table, row by row, and the drops of an idle worker.
-
-ghost use Rattle.std.specs.Prelude.{ℕ, ◌≡◌, []};
-ghost use Rattle.rpc_header.specs.declared.Kind.TheVariants as kind;
-ghost use Rattle.call_rules.specs.Entry as entry;
-ghost use Rattle.call_rules.specs.Worker.{drops, on_idle};
-ghost use Rattle.call_rules.specs.Examples.{second_call};
-ghost use Rattle.call_rules.specs.declared.worker.Unfit.TheVariants as unfit;
+//! The judgement's table, row by row.
 
 use crate::{Judged, Phase, Seen, judge};
 use rpc_header::{Activity, CallId, CallNumber, Export, Header, Kind};
@@ -153,18 +146,4 @@ fn acknowledgements_and_probes(rt: HostRuntime) {
     let (gather, filling, running, sending) = (others[0], others[1], others[2], others[3]);
     assert!(rt; all_are(&[probe], &[running, sending], Judged::Ack));
     assert!(rt; all_are(&[probe], &[gather, filling], Judged::Busy));
-}
-
-/// What an idle worker does about packets of call 65537 that it drops.
-fn packets_that_an_idle_worker_drops()
-    ensures older { on_idle (second_call kind.Call 0) (entry.Running 65538) ≡ drops (entry.Running 65538) unfit.Older }
-    ensures same { on_idle (second_call kind.Call 0) (entry.Running 65537) ≡ drops (entry.Running 65537) unfit.Same }
-    ensures busy { on_idle (second_call kind.Call 0) (entry.Running 65536) ≡ drops (entry.Running 65536) unfit.Busy }
-    ensures unknown { on_idle (second_call kind.Probe 0) entry.Empty ≡ drops entry.Empty unfit.Unknown }
-    ensures skipped { on_idle (second_call kind.Call 1) entry.Empty ≡ drops entry.Empty unfit.Skipped }
-{}
-
-#[test]
-fn drops_are_computed() {
-    packets_that_an_idle_worker_drops();
 }

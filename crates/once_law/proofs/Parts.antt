@@ -1,154 +1,135 @@
--- The invariant: what holds of the parts of the world after any events, and of which `Once` is a part.
-use Rattle.std.proofs.Common.{◌≡◌, ◌≢◌, ℕ, ◌^◌, ◌<◌, ◌≤◌, List, length, map, Option, Some, None, Bool, true, false, cond}
+-- The invariant, as parts: each is a record over exactly what it reads of the world. `Once` follows from them.
+use Rattle.std.proofs.Common.{◌≡◌, ◌≢◌, ℕ, ◌^◌, ◌<◌, ◌≤◌, List, length, map, Option, Some, None, true, false}
 use Rattle.std.specs.Prelude.{Contains}
-use Rattle.item_list.specs.Bytes.{AreBytes}
-use Rattle.udp_frames.specs.Frame.{IsMachine}
+use Rattle.binder.specs.declared.row.ExportRow.{ExportRow}
 use Rattle.rpc_header.specs.declared.Activity.{Activity}
-use Rattle.rpc_header.specs.declared.Kind.{Kind}
-use Rattle.rpc_header.specs.declared.Kind.TheVariants as kind
-use Rattle.rpc_header.specs.Spelling.{HasSpelling, FitsFields}
-use Rattle.call_rules.specs.Packet.{Call, Packet, piece_size}
-use Rattle.call_rules.specs.Entry.{Entry, Word, word_of, judge}
-use Rattle.call_rules.specs.declared.entry.Phase.TheVariants as phase
-use Rattle.call_rules.specs.declared.entry.Judged.TheVariants as judged
-use Rattle.call_rules.specs.Entry as entry
-use Rattle.call_rules.specs.Worker.{Worker, Resting, Claimed, Admitted, Ran, Answer, Run, run_of}
+use Rattle.call_rules.specs.Packet.{Packet}
+use Rattle.call_rules.specs.Entry.{Entry, word_of}
+use Rattle.call_rules.specs.Worker.{Worker, Resting, Claimed, Took, Admitted, Ran, Fetched, Run}
 use Rattle.call_rules.specs.Caller.{is_idle, current_call}
-use Rattle.replay_model.specs.Record.{Start, Return}
-use Rattle.replay_model.specs.Arrival.{header_of}
-use Rattle.replay_model.specs.World.{World, Client, Line, numbered, line_at, entry_at, is_entry_activity}
-use Rattle.replay_model.specs.Once.{NoneTwice, call_of_run, call_of_return}
+use Rattle.replay_model.specs.Once.{NoneTwice, call_of_run, call_of_return, sent_since, FailedFor}
+use Rattle.replay_model.specs.Process.{Line}
+use Rattle.replay_model.specs.Record.{Start, Return, Failure, Marked}
+use Rattle.replay_model.specs.World.{World, Client, numbered, packet_at, entry_at, is_entry_activity}
+use Rattle.lawful_rules.specs.Known.{Known, known}
+use Rattle.lawful_rules.specs.Facts.{Life, HasReply, HasRun, IsRequest, IsSent, IsEntry, Remembers, carrier, IsWorkerAt, IsLine, IsMarked}
+use Rattle.lawful_rules.specs.Lawful.{AreRows}
+use Rattle.once_law.proofs.Places.{EachLine}
 
--- a call was started with this procedure and these arguments
-pub record IsStarted (starts : List Start) (call : Call) (procedure : ℕ) (arguments : List ℕ) : Type 0 where
+-- the server's life
+abbrev pub life : World → Life
+life w = record { boot = w.server.boot; read = w.server.read }
+
+pub record Names (clients : List Client) (started : List Start) : Type 0 where
+  -- a process has started only calls of numbers below its next
+  pub below_next : EachLine clients (λ m p l. (s : Start) → Contains started s → s.call.activity ≡ l.caller.activity → s.call.number < l.next)
+  -- a call has one start
+  pub one_start : (s t : Start) → Contains started s → Contains started t → s.call ≡ t.call → s ≡ t
+
+pub record Lives (second : ℕ) (f : Life) (exports : List (Option ExportRow)) (started : List Start) (journal : List Run) : Type 0 where
+  -- the server read the second when it booted, and no second that is still to come
+  pub boot_first : f.boot ≤ f.read
+  pub read_first : f.read ≤ second
+  -- the numbers of calls have room in a header
+  pub second_fits : second < 2 ^ 32
+  -- the server's exports are of this life
+  pub rows : AreRows f exports
+  -- what ran was bound to an export that is there by now
+  pub runs_read : (r : Run) → Contains journal r → (s : Start) → Contains started s → s.call ≡ r.call → s.export.identifier ≤ f.read
+
+-- each process is as its state says
+abbrev pub Lines : Known → List Client → Type 0
+Lines k clients = EachLine clients (IsLine k)
+
+abbrev pub HasNoReturn : List Return → Line → Type 0
+HasNoReturn returns l = is_idle l.caller.state ≡ false → (x : Return) → Contains returns x → x.call ≢ current_call l.caller
+
+-- a call that is open didn't return
+abbrev pub Unreturned : List Client → List Return → Type 0
+Unreturned clients returns = EachLine clients (λ m p l. HasNoReturn returns l)
+
+-- what a process sent since its last begin or counted packet is as its state says
+abbrev pub Marks : List Client → List Marked → List Packet → Type 0
+Marks clients marks bag = EachLine clients (λ m p l. IsMarked bag l.caller (sent_since l.caller.activity marks))
+
+-- each packet in the bag was sent by a caller or by the server
+abbrev pub Sent : Known → Type 0
+Sent k = (n : ℕ) (p : Packet) → packet_at k.bag n ≡ Some p → IsSent k n p
+
+-- each packet that is ready was sent by a caller
+abbrev pub Ready : Known → List Packet → Type 0
+Ready k ready = (p : Packet) → Contains ready p → IsRequest k p
+
+-- the packet of a worker that has its entry's item, or its entry's call, in hand
+abbrev pub owned : Worker → Option Packet
+owned Resting = None
+owned (Claimed p seen) = None
+owned (Took p) = Some p
+owned (Admitted p arguments) = Some p
+owned (Ran p answer) = Some p
+owned (Fetched p) = Some p
+
+-- a worker owns nothing of this activity
+abbrev pub OwnsElsewhere : Activity → Worker → Type 0
+OwnsElsewhere a v = (p : Packet) → owned v ≡ Some p → p.header.call.activity ≢ a
+
+-- a worker, by the entry of its packet's activity
+pub record IsWorker (k : Known) (f : Life) (entries : List Entry) (v : Worker) : Type 0 where
+  pub has_entry : (p : Packet) → carrier v ≡ Some p → is_entry_activity p.header.call.activity ≡ true
+  pub at_entry : (p : Packet) → carrier v ≡ Some p → (e : Entry) → entry_at entries p.header.call.activity ≡ Some e → IsWorkerAt k f v e
+
+pub record Workers (k : Known) (f : Life) (entries : List Entry) (workers : List Worker) : Type 0 where
+  -- each worker is as its state says
+  pub works : (i : ℕ) (v : Worker) → numbered 1 workers i ≡ Some v → IsWorker k f entries v
+  -- no two workers own of one activity
+  pub apart : (i j : ℕ) (v u : Worker) → numbered 1 workers i ≡ Some v → numbered 1 workers j ≡ Some u → i ≢ j →
+      (p : Packet) → owned v ≡ Some p → OwnsElsewhere p.header.call.activity u
+
+-- this entry remembers each run of an activity that was bound in this life
+abbrev pub RemembersRuns : Known → Life → Activity → Entry → Type 0
+RemembersRuns k f a e =
+    (r : Run) → Contains k.journal r → r.call.activity ≡ a →
+    (s : Start) → Contains k.started s → s.call ≡ r.call → f.boot ≤ s.export.identifier → Remembers (word_of e) r.call.number
+
+pub record Entries (k : Known) (f : Life) (entries : List Entry) : Type 0 where
+  -- there is one for each process of each client
+  pub count : length entries ≡ 64
+  -- each entry is as its state says
+  pub each : (a : Activity) (e : Entry) → entry_at entries a ≡ Some e → IsEntry k a e
+  -- each entry remembers the runs of this life
+  pub remembered : (a : Activity) (e : Entry) → entry_at entries a ≡ Some e → RemembersRuns k f a e
+
+-- a run is of a call that was started, with its procedure and its arguments
+pub record IsStartedRun (k : Known) (r : Run) : Type 0 where
   pub start : Start
-  pub is_listed : Contains starts start
-  pub same_call : start.call ≡ call
-  pub same_procedure : start.procedure ≡ procedure
-  pub same_arguments : start.arguments ≡ arguments
+  pub is_listed : Contains k.started start
+  pub same_call : start.call ≡ r.call
+  pub same_procedure : start.procedure ≡ r.procedure
+  pub same_arguments : start.arguments ≡ r.arguments
 
--- a call ran, and was answered by this
-pub record HasRun (journal : List Run) (call : Call) (signal : Bool) (reply : List ℕ) : Type 0 where
-  pub run : Run
-  pub is_listed : Contains journal run
-  pub same_call : run.call ≡ call
-  pub same_signal : run.signal ≡ signal
-  pub same_reply : run.reply ≡ reply
-
--- a reply that one packet carries
-pub record IsOnePiece (reply : List ℕ) : Type 0 where
-  pub fits : length reply ≤ piece_size
-  pub are_bytes : AreBytes reply
-
--- a packet that its frame tells whole: its machines, the numbers of its header and its data have room there
-pub record CanBeFramed (p : Packet) : Type 0 where
-  pub from_machine : IsMachine p.from
-  pub to_machine : IsMachine p.to
-  pub fits_fields : FitsFields (header_of p.header)
-  pub fits_number : p.header.call.number < 2 ^ 48
-  pub has_spelling : HasSpelling (header_of p.header) (length p.payload)
-  pub are_bytes : AreBytes p.payload
-
--- a packet to the server is of a call that was started by a process of a client, which sent it
-pub record IsCallPacket (starts : List Start) (p : Packet) : Type 0 where
-  pub from_client : p.from ≢ 1
-  pub same_kind : p.header.kind ≡ kind.Call
-  pub names_sender : p.header.call.activity.machine ≡ p.from
-  pub has_entry : is_entry_activity p.header.call.activity ≡ true
-  pub is_started : IsStarted starts p.header.call p.header.procedure p.payload
-  pub framed : CanBeFramed p
-
-abbrev pub answer_kind : Bool → Kind
-answer_kind signal = cond signal kind.Signal kind.Result
-
--- a packet from the server tells the client that called what the run of its call answered
-pub record IsAnswer (journal : List Run) (p : Packet) : Type 0 where
-  pub signal : Bool
-  pub same_kind : p.header.kind ≡ answer_kind signal
-  pub names_receiver : p.header.call.activity.machine ≡ p.to
-  pub has_run : HasRun journal p.header.call signal p.payload
-  pub framed : CanBeFramed p
-
--- a packet that was sent
-pub record IsSent (starts : List Start) (journal : List Run) (p : Packet) : Type 0 where
-  pub to_server : p.to ≡ 1 → IsCallPacket starts p
-  pub to_client : p.to ≢ 1 → IsAnswer journal p
-
--- what a process puts into the header of a call, beside its number, has room there
-pub record HasRoom (l : Line) : Type 0 where
-  pub hint : l.caller.hint < 256 ^ 2
-  pub identifier : l.binding.identifier < 256 ^ 4
-  pub index : l.binding.index < 256 ^ 2
-
--- a process has used only numbers below its next, and a call that it has open didn't return
-pub record IsLine (starts : List Start) (returns : List Return) (machine process : ℕ) (l : Line) : Type 0 where
-  pub own_activity : l.caller.activity ≡ record { machine = machine; process = process }
-  pub has_entry : is_entry_activity l.caller.activity ≡ true
-  pub used_numbers : (s : Start) → Contains starts s → s.call.activity ≡ l.caller.activity → s.call.number < l.next
-  pub not_returned : is_idle l.caller.state ≡ false → (x : Return) → Contains returns x → x.call ≢ current_call l.caller
-  pub has_room : HasRoom l
-
--- an entry that outlives a run of this number has that number or a greater one
-pub record Remembers (e : Entry) (number : ℕ) : Type 0 where
-  pub is_used : (word_of e).phase ≢ phase.Empty
-  pub reaches : number ≤ (word_of e).number
-
-abbrev pub HasRunning : List Entry → Packet → Type 0
-HasRunning entries p = (e : Entry) → entry_at entries p.header.call.activity ≡ Some e → e ≡ entry.Running p.header.call.number
-
-pub record IsClaimed (starts : List Start) (p : Packet) (seen : Word) : Type 0 where
-  pub packet : IsCallPacket starts p
-  pub judged : judge seen p.header ≡ judged.Admit
-
-pub record IsAdmitted (starts : List Start) (journal : List Run) (entries : List Entry) (p : Packet) : Type 0 where
-  pub packet : IsCallPacket starts p
-  pub has_running : HasRunning entries p
-  pub has_not_run : (r : Run) → Contains journal r → r.call ≢ p.header.call
-
-pub record IsRan (starts : List Start) (journal : List Run) (entries : List Entry) (p : Packet) (answer : Answer) : Type 0 where
-  pub packet : IsCallPacket starts p
-  pub has_running : HasRunning entries p
-  pub has_run : Contains journal (run_of p answer)
-  pub one_piece : IsOnePiece answer.reply
-
--- what a worker holds
-abbrev pub IsWorker : List Start → List Run → List Entry → Worker → Type 0
-IsWorker starts journal entries Resting = Unit {0}
-IsWorker starts journal entries (Claimed p seen) = IsClaimed starts p seen
-IsWorker starts journal entries (Admitted p) = IsAdmitted starts journal entries p
-IsWorker starts journal entries (Ran p answer) = IsRan starts journal entries p answer
-
--- the packet of the call that a worker runs
-abbrev pub running : Worker → Option Packet
-running Resting = None
-running (Claimed p seen) = None
-running (Admitted p) = Some p
-running (Ran p answer) = Some p
-
--- a worker runs no call of this activity
-abbrev pub RunsElsewhere : Activity → Worker → Type 0
-RunsElsewhere a v = (p : Packet) → running v ≡ Some p → p.header.call.activity ≢ a
-
--- no two workers run calls of one activity
-abbrev pub AreApart : List Worker → Type 0
-AreApart workers =
-    (i j : ℕ) (v u : Worker) → numbered 1 workers i ≡ Some v → numbered 1 workers j ≡ Some u → i ≢ j →
-    (p : Packet) → running v ≡ Some p → RunsElsewhere p.header.call.activity u
-
-pub record Inv (clients : List Client) (entries : List Entry) (workers : List Worker) (ready bag : List Packet) (starts : List Start) (journal : List Run) (returns : List Return) : Type 0 where
-  pub lines : (m p : ℕ) (l : Line) → line_at clients m p ≡ Some l → IsLine starts returns m p l
-  pub entry_count : length entries ≡ 64
-  pub works : (i : ℕ) (v : Worker) → numbered 1 workers i ≡ Some v → IsWorker starts journal entries v
-  pub apart : AreApart workers
-  pub waits : (p : Packet) → Contains ready p → IsCallPacket starts p
-  pub sent : (p : Packet) → Contains bag p → IsSent starts journal p
-  pub remembered : (r : Run) → Contains journal r → (e : Entry) → entry_at entries r.call.activity ≡ Some e → Remembers e r.call.number
-  pub runs_started : (r : Run) → Contains journal r → IsStarted starts r.call r.procedure r.arguments
-  pub runs_once : NoneTwice (map call_of_run journal)
-  pub returns_run : (x : Return) → Contains returns x → HasRun journal x.call x.signal x.reply
+pub record Told (k : Known) (returns : List Return) (failures : List Failure) : Type 0 where
+  -- each run was started
+  pub runs_started : (r : Run) → Contains k.journal r → IsStartedRun k r
+  -- the reply of each run can be sent
+  pub replies : (r : Run) → Contains k.journal r → HasReply r.signal r.reply
+  -- no call ran twice
+  pub runs_once : NoneTwice (map call_of_run k.journal)
+  -- each return tells its run
+  pub returns_run : (x : Return) → Contains returns x → HasRun k x.call x.signal x.reply
+  -- no call returned twice
   pub returns_once : NoneTwice (map call_of_return returns)
+  -- each failure has its cause
+  pub failed : (f : Failure) → Contains failures f → FailedFor k.started k.rejects k.bag f f.cause
 
--- the invariant of a world: its parts, and a second by which the numbers of calls have room in a header
+-- the invariant
 pub record Holds (w : World) : Type 0 where
-  pub second_fits : w.second < 2 ^ 32
-  pub parts : Inv w.clients w.server.entries w.server.workers w.server.ready w.bag w.records.started w.records.journal w.records.returns
+  pub names : Names w.clients w.records.started
+  pub lives : Lives w.second (life w) w.server.exports.rows w.records.started w.records.journal
+  pub lines : Lines (known w) w.clients
+  pub unreturned : Unreturned w.clients w.records.returns
+  pub marks : Marks w.clients w.records.marks w.bag
+  pub sent : Sent (known w)
+  pub ready : Ready (known w) w.server.ready
+  pub workers : Workers (known w) (life w) w.server.entries w.server.workers
+  pub entries : Entries (known w) (life w) w.server.entries
+  pub told : Told (known w) w.records.returns w.records.failures

@@ -1,14 +1,16 @@
 -- The world's maps: what a process, an entry or a worker is after a write of one of them.
-use Rattle.std.proofs.Common.{◌≡◌, ◌≢◌, ℕ, ◌-◌, ◌≤◌, List, length, refl, ap, sym, ◌∙◌, subst, arith, Some, None, Bool, true, false, ltb, cond, ltb-false, get_or}
+use Rattle.std.proofs.Common.{◌≡◌, ◌≢◌, ◌⊎◌, ℕ, ◌+◌, ◌-◌, ◌≤◌, List, [], ◌∷◌, ◌++◌, length, refl, ap, sym, ◌∙◌, subst, arith, Some, None, inl, inr, Bool, true, false, ltb, cond, ltb-false, get_or}
 use Rattle.std.specs.Prelude.{slice_get, slice_set, Contains}
-use Rattle.std.proofs.lemmas.Option.{none-some, option_and_then_some, slice_get-get_or}
+use Rattle.std.proofs.lemmas.Option.{none-some, option_and_then_some, slice_get-get_or, slice_get_read}
 use Rattle.std.proofs.lemmas.Bool.{le-ltb, false≢true}
 use Rattle.std.proofs.lemmas.Bool.Decides.{nat_tests}
 use Rattle.std.proofs.lemmas.List.{length-set}
-use Rattle.once_law.proofs.Lists.{places_set, contains_read}
+use Rattle.once_law.proofs.Lists.{places_set, contains_read, slice_get_front, slice_get_last, slice_get_push_cases}
 use Rattle.rpc_header.specs.declared.Activity.{Activity}
 use Rattle.call_rules.specs.Entry.{Entry, Empty}
-use Rattle.replay_model.specs.World.{Client, Line, numbered, with_numbered, line_at, entry_at, with_entry, is_entry_activity, entry_place}
+use Rattle.call_rules.specs.Packet.{Packet}
+use Rattle.replay_model.specs.Process.{Line}
+use Rattle.replay_model.specs.World.{Client, numbered, with_numbered, packet_at, line_at, entry_at, with_entry, is_entry_activity, entry_place}
 
 -- a number that has an item is not below the first, and the item stands at its place
 pub numbered_read : {A : Type 0} (from : ℕ) (xs : List A) (n : ℕ) (x : A) → numbered from xs n ≡ Some x → (from ≤ n) × (slice_get xs (n - from) ≡ Some x)
@@ -116,14 +118,55 @@ length-with_entry es a e = go (is_entry_activity a)
     go true = length-set es (entry_place a) e
     go false = refl
 
--- an entry that is written over itself
-pub entries_kept : (es : List Entry) (a : Activity) (e : Entry) → entry_at es a ≡ Some e → (b : Activity) (x : Entry) → entry_at (with_entry es a e) b ≡ Some x → entry_at es b ≡ Some x
-entries_kept es a e h = entries_set (λ b x. entry_at es b ≡ Some x) es a e (λ b x g ne. g) h
+-- Packets: a new one has the next number, and the others keep theirs.
 
--- the entry that was written
-pub entry_written : (es : List Entry) (a : Activity) (e x : Entry) → entry_at (with_entry es a e) a ≡ Some x → x ≡ e
-entry_written es a e x h = entries_set (λ b y. b ≡ a → y ≡ e) es a e (λ b y g ne same. absurd (ne same)) (λ same. refl) a x h refl
+pub packet_kept : (bag : List Packet) (q : Packet) (n : ℕ) (p : Packet) → packet_at bag n ≡ Some p → packet_at (bag ++ q ∷ []) n ≡ Some p
+packet_kept bag q n p h =
+    let r = numbered_read 1 bag n p h in
+    numbered_at 1 (bag ++ q ∷ []) n p r.0 (slice_get_front bag q (n - 1) p r.1)
 
--- an entry of another activity
-pub entries_other : (es : List Entry) (a : Activity) (e : Entry) (b : Activity) (x : Entry) → b ≢ a → entry_at (with_entry es a e) b ≡ Some x → entry_at es b ≡ Some x
-entries_other es a e b x ne h = entries_set (λ c y. c ≢ a → entry_at es c ≡ Some y) es a e (λ c y g n m. g) (λ m. absurd (m refl)) b x h ne
+pub packet_last : (bag : List Packet) (q : Packet) → packet_at (bag ++ q ∷ []) (length bag + 1) ≡ Some q
+packet_last bag q =
+    numbered_at 1 (bag ++ q ∷ []) (length bag + 1) q (omega arith)
+    (subst (λ k. slice_get (bag ++ q ∷ []) k ≡ Some q) (omega arith) (slice_get_last bag q))
+
+pub packet_cases : (bag : List Packet) (q : Packet) (n : ℕ) (p : Packet) → packet_at (bag ++ q ∷ []) n ≡ Some p → (packet_at bag n ≡ Some p) ⊎ ((n ≡ length bag + 1) × (q ≡ p))
+packet_cases bag q n p h =
+    let r = numbered_read 1 (bag ++ q ∷ []) n p h in
+    elim (slice_get_push_cases bag q (n - 1) p r.1) [
+      | inl old ↦ inl (numbered_at 1 bag n p r.0 old)
+      | inr new ↦ inr (omega (arith, new.0, r.0), new.1)
+    ]
+
+-- a packet that stands in the bag has a number
+pub packet_number : (bag : List Packet) (p : Packet) → Contains bag p → (n : ℕ) × (packet_at bag n ≡ Some p)
+packet_number bag p c = (
+  c.0 + 1,
+  numbered_at 1 bag (c.0 + 1) p (omega arith)
+      (subst (λ k. slice_get bag k ≡ Some p) (omega arith) (slice_get_read bag (length bag) c.0 p refl c.1 (sym c.2))),
+)
+
+-- One process is written: each process afterwards is one of the others, or the one that was written.
+pub record Rewrites (before after : List Client) (machine process : ℕ) (old new : Line) : Type 0 where
+  pub was : line_at before machine process ≡ Some old
+  pub reads : (m p : ℕ) (l : Line) → line_at after m p ≡ Some l →
+      ((line_at before m p ≡ Some l) × (m ≡ machine → p ≡ process → ⊥)) ⊎ ((m ≡ machine) × (p ≡ process) × (new ≡ l))
+
+pub rewrites : (cs : List Client) (machine process : ℕ) (c d : Client) (a b : Line) → numbered 2 cs machine ≡ Some c → numbered 1 c.lines process ≡ Some a → d.lines ≡ with_numbered 1 c.lines process b → Rewrites cs (with_numbered 2 cs machine d) machine process a b
+rewrites cs machine process c d a b ec ea ed =
+    record {
+      was = line_at_read cs machine process c a ec ea;
+      reads = lines_set (λ m p l. ((line_at cs m p ≡ Some l) × (m ≡ machine → p ≡ process → ⊥)) ⊎ ((m ≡ machine) × (p ≡ process) × (b ≡ l)))
+          cs machine process c d a b ec ea ed (λ m p l h ne. inl (h, ne)) (inr (refl, refl, refl));
+    }
+
+-- what holds of each process
+abbrev pub EachLine : List Client → (ℕ → ℕ → Line → Type 0) → Type 0
+EachLine clients P = (m p : ℕ) (l : Line) → line_at clients m p ≡ Some l → P m p l
+
+pub rewritten : {before after : List Client} {machine process : ℕ} {old new : Line} → Rewrites before after machine process old new → (P : ℕ → ℕ → Line → Type 0) → ((m p : ℕ) (l : Line) → line_at before m p ≡ Some l → (m ≡ machine → p ≡ process → ⊥) → P m p l) → P machine process new → EachLine after P
+rewritten {before} {after} {machine} {process} {old} {new} h P others own m p l e =
+    elim (h.reads m p l e) [
+      | inl o ↦ others m p l o.0 o.1
+      | inr n ↦ subst (λ x. P x p l) (sym n.0) (subst (λ y. P machine y l) (sym n.1) (subst (λ z. P machine process z) n.2 own))
+    ]

@@ -1,9 +1,9 @@
 //! What holds of the world after any events: each call's body runs at most once, for a call that was
-//! started, and each return tells what that run answered; and each packet that was sent is read as it was
-//! sent, or after damage as it was sent or not at all.
+//! started, each return tells what that run answered, and each failure has its cause; and each packet that was
+//! sent is read as it was sent, or after damage as it was sent or not at all.
 //!
 //! There is no program here. The contracts of the functions are the laws, and their bodies only call the laws
-//! of frames and headers that these rest on.
+//! that these rest on: of frames, of headers, and of the rules.
 #![tactic(auto)]
 
 ghost use Rattle.std.specs.Prelude.{ℕ, ◌≡◌, ◌<◌, ◌^◌, List, Contains, length};
@@ -16,6 +16,7 @@ ghost use Rattle.replay_model.specs.Once.{Once};
 ghost use Rattle.replay_model.specs.Step.{run};
 ghost use Rattle.replay_model.specs.World.{first_world};
 
+use lawful_rules::rules_are_lawful;
 use replay_model::fields_are_a_header;
 use rpc_header::{a_spelling_is_32_bytes, what_is_written_is_read};
 use udp_frames::laws::{flipped_bit_never_forges, written_is_read};
@@ -30,6 +31,7 @@ pub fn once_after_any_events()
     what_is_written_is_read();
     a_spelling_is_32_bytes();
     fields_are_a_header();
+    rules_are_lawful();
 }
 
 /// Whatever events come, each packet in the bag is read by its receiver from its frame as it was sent, and
@@ -52,4 +54,5 @@ pub fn packets_survive_any_events()
     what_is_written_is_read();
     a_spelling_is_32_bytes();
     fields_are_a_header();
+    rules_are_lawful();
 }

@@ -68,7 +68,7 @@ pub record WasUnanswered (bag : List Packet) (f : Failure) : Type 0 where
 
 -- a Reject of the call with this reason was delivered, and when the server sent it, its exports answered that
 -- reason for the export and the procedure that the call was started with
-pub record WasRefused (r : Records) (bag : List Packet) (f : Failure) (reason : ℕ) : Type 0 where
+pub record WasRefused (started : List Start) (rejects : List Rejection) (bag : List Packet) (f : Failure) (reason : ℕ) : Type 0 where
   pub number : ℕ
   pub packet : Packet
   pub is_there : packet_at bag number ≡ Some packet
@@ -77,17 +77,17 @@ pub record WasRefused (r : Records) (bag : List Packet) (f : Failure) (reason : 
   pub same_reason : packet.header.reason ≡ reason
   pub was_heard : Contains f.marks (record { activity = f.call.activity; mark = Heard number })
   pub rejection : Rejection
-  pub is_rejection : Contains r.rejects rejection
+  pub is_rejection : Contains rejects rejection
   pub of_packet : rejection.packet ≡ number
   pub start : Start
-  pub is_started : Contains r.started start
+  pub is_started : Contains started start
   pub start_of_call : start.call ≡ f.call
   pub answered : refusal (accepts rejection.rows start.export start.procedure) ≡ Some reason
 
 -- a call failed for the cause that is told
-abbrev pub FailedFor : Records → List Packet → Failure → Cause → Type 0
-FailedFor r bag f Unanswered = WasUnanswered bag f
-FailedFor r bag f (RefusedFor reason) = WasRefused r bag f reason
+abbrev pub FailedFor : List Start → List Rejection → List Packet → Failure → Cause → Type 0
+FailedFor started rejects bag f Unanswered = WasUnanswered bag f
+FailedFor started rejects bag f (RefusedFor reason) = WasRefused started rejects bag f reason
 
 pub record Once (w : World) : Type 0 where
   -- each call's body runs at most once
@@ -98,4 +98,4 @@ pub record Once (w : World) : Type 0 where
   pub returns_tell_their_run : All (TellsRun w.records) w.records.returns
   pub returns_once : NoneTwice (map call_of_return w.records.returns)
   -- a call fails only after eight unanswered transmissions, or refused by the server
-  pub failures_have_their_cause : All (λ (f : Failure). FailedFor w.records w.bag f f.cause) w.records.failures
+  pub failures_have_their_cause : All (λ (f : Failure). FailedFor w.records.started w.records.rejects w.bag f f.cause) w.records.failures
