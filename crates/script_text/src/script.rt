@@ -9,6 +9,7 @@ ghost use Rattle.script_text.specs.Packets.{HasPackets};
 use crate::fault::ScriptFault;
 use crate::line::read_line;
 use crate::lines::first_line;
+use crate::word::{is_fine, is_plain};
 use item_list::Items;
 use replay_model::limits::{LONG_BUFFERS, SMALL_BUFFERS};
 use replay_model::{Event, TextFault};
@@ -55,13 +56,14 @@ fn read_events(alloc: Global, text: &[u8]) -> Result<Vec<Event>, ScriptFault>
 {
     let mut events = Vec::new(alloc);
     let mut packets = HashSet::new(alloc);
+    let plain = is_plain(text);
     let mut ended = false;
     let mut line = 0;
     let mut rest = Some(text);
     while let Some(text) = rest {
         let (first, behind) = first_line(text);
         line += 1;
-        match read_line(first, ended) {
+        match read_line(first, is_fine(first, plain), ended) {
             Ok(None) => {}
             Ok(Some(event)) => {
                 if !brings_new(&mut packets, event)? {
