@@ -8,6 +8,7 @@ ghost use Rattle.replay_model.specs.Record.{Start, Unanswered, RefusedFor};
 ghost use Rattle.replay_model.specs.Lines.{call_text, lines_of_act, return_line};
 
 use crate::bytes::{BytesText, ExceptionText};
+use crate::short::Short;
 use crate::text::Print;
 use call_rules::TRIES;
 use lane_checksum::Digest;
@@ -24,11 +25,9 @@ impl Display for CallText {
 
     fn fmt<W: fmt::Write>(&self, f: &mut Formatter<W>) -> fmt::Result {
         let CallId { activity, number } = self.0;
-        write!(
-            f,
-            "{}.{} {}",
-            activity.machine, activity.process, number.value
-        )
+        let machine = Short(activity.machine);
+        let process = Short(activity.process as u32);
+        write!(f, "{machine}.{process} {}", number.value)
     }
 }
 

@@ -10,6 +10,7 @@ mod counts;
 mod deliveries;
 mod packets;
 mod runs;
+mod short;
 mod text;
 mod work;
 

@@ -4,6 +4,7 @@ ghost use Rattle.std.specs.Prelude.{◌≡◌, ◌++◌, OnOk, Some};
 ghost use Rattle.call_rules.specs.Packet.{fields_of};
 ghost use Rattle.replay_model.specs.Lines.{flags_text, header_text, kind_text, packet_line};
 
+use crate::short::Short;
 use crate::text::Print;
 use rpc_header::{Header, Kind};
 use std::alloc::AllocError;
@@ -21,6 +22,8 @@ pub fn put_packet(
 ) -> Result<(), AllocError>
     ensures { OnOk result (out.new.items ≡ out.old.items ++ packet_line number from to (fields_of header.now) len) }
 {
+    let from = Short(from as u32);
+    let to = Short(to as u32);
     let header = HeaderText(header);
     writeln!(out, "packet {number} {from}>{to} {header} {len}")
 }
@@ -36,7 +39,7 @@ impl Display for HeaderText<'_> {
         let header = self.0;
         let kind = KindText(header.kind);
         let call = header.call.number.value;
-        let fragment = header.fragment;
+        let fragment = Short(header.fragment as u32);
         write!(f, "{kind} {call}/{fragment} {}", FlagsText(header))
     }
 }

@@ -4,6 +4,7 @@ ghost use Rattle.std.specs.Prelude.{◌≡◌, ◌++◌, OnOk, Some};
 ghost use Rattle.replay_model.specs.Record as act;
 ghost use Rattle.replay_model.specs.Lines.{did_text, unfit_text, lines_of_act};
 
+use crate::short::Short;
 use crate::text::Print;
 use call_rules::{Did, Unfit};
 use std::alloc::AllocError;
@@ -20,6 +21,7 @@ pub fn put_idle(out: &mut Vec<u8>, worker: u8) -> Result<(), AllocError>
 pub fn put_work(out: &mut Vec<u8>, worker: u8, number: u64, did: Did) -> Result<(), AllocError>
     ensures { OnOk result (out.new.items ≡ out.old.items ++ lines_of_act (act.Works worker number did)) }
 {
+    let worker = Short(worker as u32);
     writeln!(out, "worker {worker} {}", DidText { number, did })
 }
 

@@ -151,9 +151,34 @@ unknown_call begun machine process word more other =
       ),
     ))
 
+-- no line that begins with one of the words is skipped
+pub counts_from : (v : Verb) (more : List (List ℕ)) → is_skipped (text_of v ∷ more) ≡ false
+counts_from verb.Pool more = refl
+counts_from verb.Second more = refl
+counts_from verb.Call more = refl
+counts_from verb.Bind more = refl
+counts_from verb.Tick more = refl
+counts_from verb.Deliver more = refl
+counts_from verb.Damage more = refl
+counts_from verb.Work more = refl
+counts_from verb.Export more = refl
+counts_from verb.Withdraw more = refl
+counts_from verb.Restart more = refl
+counts_from verb.Skip more = refl
+counts_from verb.Show more = refl
+counts_from verb.Holders more = refl
+counts_from verb.Sweep more = refl
+counts_from verb.Journal more = refl
+counts_from verb.End more = refl
+
 module _ (line first : List ℕ) (more : List (List ℕ)) (words : words_of line ≡ first ∷ more) (counts : is_skipped (first ∷ more) ≡ false) where
   pub is_counted : is_skipped (words_of line) ≡ false
   is_counted = ap is_skipped words ∙ counts
+
+  pub reads_byte : (above : Above) → list_all is_byte_of_line line ≡ false → ReadsLine above line (Err fault.Byte)
+  reads_byte above other =
+      let ws = words_of line in
+      (is_counted, failing fault.Byte (list_all is_byte_of_line line) ((fault.Late, not above.ended) ∷ form_checks above.begun ws) (fault_by (fitting ws) ws) other)
 
   module _ (above : Above) (bytes : list_all is_byte_of_line line ≡ true) where
     pub reads_late : above.ended ≡ true → ReadsLine above line (Err fault.Late)

@@ -4,6 +4,7 @@ mod FirstWord
 mod LineBytes
 mod LineLaw
 mod Numbers
+mod Plain
 mod Positions
 mod Rows
 mod TextLaw

@@ -6,7 +6,7 @@ use Rattle.std.specs.Char.{is_ascii_digit, digit_value}
 use Rattle.std.specs.Fmt.{decimal}
 use Rattle.std.specs.Str.{all_ascii_digits}
 use Rattle.std.specs.Str.Parse.{AllDigits, digits_value, digits_value_after}
-use Rattle.std.proofs.lemmas.Bool.{eqb-true, ltb-true, lt-ltb, leb-true, le-leb, and_parts, and_from, or_cases, or_right, false_from_ne_true}
+use Rattle.std.proofs.lemmas.Bool.{eqb-true, ltb-true, lt-ltb, leb-true, le-leb, and_parts, and_from, or_cases, or_right, and_right, false_from_ne_true}
 use Rattle.std.proofs.lemmas.Bool.Decides.{nat_tests}
 use Rattle.std.proofs.lemmas.Str.Parse.{IsNumeralModel, numerals_by_value, tells_all_ascii_digits}
 use Rattle.std.proofs.lemmas.Fmt.{decimal_digit, first_decimal, decimal_is_IsNumeral, decimal-digits_value}
@@ -40,26 +40,34 @@ value-ge : (n : ℕ) (ds : List ℕ) → n ≤ digits_value_after 10 n ds
 value-ge n [] = omega arith
 value-ge n (c ∷ cs) = omega (arith, value-ge (n * 10 + digit_value c) cs)
 
-digit-ge : (ds : List ℕ) (i : ℕ) → AllDigits 10 ds → i < length ds → 48 ≤ get_or ds i 0
-digit-ge [] i a h = absurd (omega arith)
-digit-ge (c ∷ cs) zero a h = (digit_is c a.0).1
-digit-ge (c ∷ cs) (suc i) a h = digit-ge cs i a.1 (omega arith)
-
 pub at_end : (ds : List ℕ) (i n : ℕ) → length ds ≤ i → digits_value_after 10 n (drop i ds) ≡ n
 at_end [] zero n h = refl
 at_end [] (suc i) n h = refl
 at_end (c ∷ cs) zero n h = absurd (omega arith)
 at_end (c ∷ cs) (suc i) n h = at_end cs i n (omega arith)
 
-module _ (w : List ℕ) (numeral : is_numeral w ≡ true) where
+module _ (w : List ℕ) (all : list_all is_ascii_digit w ≡ true) where
   digits : all_ascii_digits w ≡ true
-  digits = sym (same_digits w) ∙ (and_parts _ _ numeral).0
-
-  plain : begins_plainly w ≡ true
-  plain = (and_parts _ _ numeral).1
+  digits = sym (same_digits w) ∙ all
 
   all_digits : AllDigits 10 w
   all_digits = own.to w digits
+
+  -- the digits from place i on, read behind the number of those before it
+  pub goes_on : (i n : ℕ) → i < length w
+      → digits_value_after 10 n (drop i w) ≡ digits_value_after 10 (n * 10 + (get_or w i 0 - 48)) (drop (i + 1) w)
+  goes_on i n h = let one : i + 1 ≡ suc i = omega arith in rw one (next_digit w i n all_digits h)
+
+  -- the number grows with each digit
+  pub grows : (i n : ℕ) → i < length w → digits_value_after 10 n (drop i w) ≡ value w → n * 10 + (get_or w i 0 - 48) ≤ value w
+  grows i n h e = omega (arith, e, goes_on i n h, value-ge (n * 10 + (get_or w i 0 - 48)) (drop (i + 1) w))
+
+module _ (w : List ℕ) (numeral : is_numeral w ≡ true) where
+  pub only_digits : list_all is_ascii_digit w ≡ true
+  only_digits = (and_parts _ _ numeral).0
+
+  plain : begins_plainly w ≡ true
+  plain = (and_parts _ _ numeral).1
 
   some_digits : 0 < length w
   some_digits = elim (or_cases (length w == 1) (nat_lt 48 (get_or w 0 0)) plain) [
@@ -73,20 +81,14 @@ module _ (w : List ℕ) (numeral : is_numeral w ≡ true) where
     | inr e ↦ let above = ltb-true _ _ e in absurd (omega arith)
   ]
 
-  -- the digits from place i on, read behind the number of those before it
-  pub goes_on : (i n : ℕ) → i < length w
-      → digits_value_after 10 n (drop i w) ≡ digits_value_after 10 (n * 10 + (get_or w i 0 - 48)) (drop (i + 1) w)
-  goes_on i n h = let one : i + 1 ≡ suc i = omega arith in rw one (next_digit w i n all_digits h)
-
-  pub is_digit_at : (i : ℕ) → i < length w → 48 ≤ get_or w i 0
-  is_digit_at i h = digit-ge w i all_digits h
-
-  -- the number grows with each digit
-  pub grows : (i n : ℕ) → i < length w → digits_value_after 10 n (drop i w) ≡ value w → n * 10 + (get_or w i 0 - 48) ≤ value w
-  grows i n h e = omega (arith, e, goes_on i n h, value-ge (n * 10 + (get_or w i 0 - 48)) (drop (i + 1) w))
-
   pub is_decimal : value w < 2 ^ 64 → w ≡ decimal (value w)
-  is_decimal small = sym (decimal-digits_value own w digits some_digits zero_alone small)
+  is_decimal small = sym (decimal-digits_value own w (digits w only_digits) some_digits zero_alone small)
+
+pub numeral_from : (w : List ℕ) → list_all is_ascii_digit w ≡ true → begins_plainly w ≡ true → is_numeral w ≡ true
+numeral_from w all plain = and_from (list_all is_ascii_digit w) (begins_plainly w) all plain
+
+pub not_plain : (w : List ℕ) → begins_plainly w ≡ false → is_numeral w ≡ false
+not_plain w e = and_right (list_all is_ascii_digit w) (begins_plainly w) e
 
 -- tests in their order
 pub passes : (f : TextFault) (b : Bool) (rows : Checks) → first_of ((f, b) ∷ rows) ≡ None → (b ≡ true) × (first_of rows ≡ None)

@@ -1,7 +1,7 @@
 -- The words of a line as they are taken from it, and the first words and call words that there are.
-use Rattle.std.specs.Prelude.{◌≡◌, ◌≢◌, ◌<◌, ℕ, List, [], ◌∷◌, length, false, Option, Some, None, Result, Ok, Err, codes, slice_index}
+use Rattle.std.specs.Prelude.{◌≡◌, ◌≢◌, ◌<◌, ℕ, List, [], ◌∷◌, length, false, Option, Some, None, MatchOption, Result, Ok, Err, codes, slice_index}
 use Rattle.std.specs.Borrow.{Bor}
-use Rattle.replay_model.specs.Script.{is_blank, words_of}
+use Rattle.replay_model.specs.Script.{is_blank, is_skipped, words_of}
 use Rattle.replay_model.specs.declared.text_fault.TextFault.{TextFault}
 use Rattle.replay_model.specs.declared.text_fault.TextFault.TheVariants as fault
 use Rattle.script_text.specs.declared.word.CallWords.{CallWords}
@@ -29,6 +29,14 @@ text_of verb.Holders = codes "holders"
 text_of verb.Sweep = codes "sweep"
 text_of verb.Journal = codes "journal"
 text_of verb.End = codes "end"
+
+-- the word that says this, or a word that says nothing
+abbrev pub IsVerb : List ℕ → Option Verb → Type 0
+IsVerb word verb = MatchOption verb ((v : Verb) → word ≢ text_of v) (λ v. word ≡ text_of v)
+
+-- a line of these words, the first and those behind it, isn't skipped
+abbrev pub CountsFrom : List ℕ → List ℕ → List (List ℕ) → Type 0
+CountsFrom line first more = (words_of line ≡ first ∷ more) × (is_skipped (first ∷ more) ≡ false)
 
 abbrev pub asked_text_of : CallVerb → List ℕ
 asked_text_of asked.Null = codes "null"

@@ -1,43 +1,62 @@
 //! What one line of a script spells.
 ghost use Rattle.std.specs.Prelude.{◌≡◌, ◌≤◌, ◌∷◌, ℕ, List, Bool, IfOk, IfSome, codes};
-ghost use Rattle.script_text.specs.Words.{text_of};
+ghost use Rattle.script_text.specs.Words.{CountsFrom, IsVerb, text_of};
 ghost use Rattle.script_text.specs.Reading.{ReadsWords, ReadsLine, ReadsNumber};
 ghost use Rattle.replay_model.specs.Script.{InRange, is_skipped, words_of};
-ghost use Rattle.replay_model.specs.TextFault.{Above};
+ghost use Rattle.std.specs.List.{list_all};
+ghost use Rattle.replay_model.specs.TextFault.{Above, is_byte_of_line};
 
 use crate::number::{number, short_number, small_number};
-use crate::verb::{CallVerb, Verb, call_verb_of, verb_of};
-use crate::word::{
-    call_words, first_word, has_bytes_of_line, no_words, one_word, tick_words, two_words,
-};
+use crate::verb::{CallVerb, Verb, call_verb_of, common_verb, verb_of};
+use crate::word::{call_words, first_word, no_words, one_word, tick_words, two_words};
 use replay_model::limits::{
     FIRST_CLIENT, LARGEST_COUNT, LARGEST_NUMBER, LAST_BIT, LAST_CLIENT, LAST_PROCESS, LAST_WORKER,
 };
 use replay_model::{CallWord, Event, TextFault};
 
-/// The event that a line spells, or nothing where it is skipped. `ended` says whether a line above is the end.
-pub fn read_line(line: &[u8], ended: bool) -> Result<Option<Event>, TextFault>
+/// The event that a line spells, or nothing where it is skipped. `fine` says whether it has only bytes that a line may
+/// have, and `ended` whether a line above is the end.
+pub fn read_line(line: &[u8], fine: bool, ended: bool) -> Result<Option<Event>, TextFault>
+    requires { fine ≡ list_all is_byte_of_line line.now }
     ensures reads { (above : Above) → above.ended ≡ ended → ReadsLine above line.now result }
     ensures in_range { IfOk result (λ e. IfSome e InRange) }
 {
+    if let Some((verb, rest)) = common_verb(line) {
+        return read_counted(Some(verb), rest, fine, ended);
+    }
     let Some((first, rest)) = first_word(line) else {
         return Ok(None);
     };
     if is_comment(first) {
         return Ok(None);
     }
-    if !has_bytes_of_line(line) {
+    read_counted(verb_of(first), rest, fine, ended)
+}
+
+/// The event of a line that isn't skipped. It begins with this word, or with one that begins no form.
+#[inline(always)]
+fn read_counted(
+    verb: Option<Verb>,
+    rest: &[u8],
+    fine: bool,
+    ended: bool,
+) -> Result<Option<Event>, TextFault>
+    ensures reads { (above : Above) (line first : List ℕ) → CountsFrom line first (words_of rest.now) → IsVerb first verb
+        → fine ≡ list_all is_byte_of_line line → above.ended ≡ ended → ReadsLine above line result }
+    ensures in_range { IfOk result (λ e. IfSome e InRange) }
+{
+    if !fine {
         return Err(TextFault::Byte);
     }
     if ended {
         return Err(TextFault::Late);
     }
-    let Some(verb) = verb_of(first) else {
-        return Err(TextFault::Word);
-    };
-    match event_of(verb, rest) {
-        Ok(event) => Ok(Some(event)),
-        Err(fault) => Err(fault),
+    match verb {
+        None => Err(TextFault::Word),
+        Some(verb) => match event_of(verb, rest) {
+            Ok(event) => Ok(Some(event)),
+            Err(fault) => Err(fault),
+        },
     }
 }
 

@@ -13,12 +13,15 @@ pub fn number(word: &[u8], low: u32, high: u32) -> Result<u32, TextFault>
     ensures at_least { IfOk result (λ n. low ≤ n) }
     ensures at_most { IfOk result (λ n. n ≤ high) }
 {
-    if !is_numeral(word) {
+    let Some(n) = value_of(word) else {
+        if is_numeral(word) {
+            return Err(TextFault::Range);
+        }
+        return Err(TextFault::Number);
+    };
+    if !begins_plainly(word) {
         return Err(TextFault::Number);
     }
-    let Some(n) = value_of(word) else {
-        return Err(TextFault::Range);
-    };
     if low <= n && n <= high {
         Ok(n)
     } else {
@@ -26,16 +29,17 @@ pub fn number(word: &[u8], low: u32, high: u32) -> Result<u32, TextFault>
     }
 }
 
-/// The number that these digits write, where it has at most 32 bits.
-fn value_of(digits: &[u8]) -> Option<u32>
-    requires { is_numeral digits.now ≡ true }
-    ensures { MatchOption result (2 ^ 32 ≤ value digits.now) (λ n. n ≡ value digits.now) }
+/// The number that a word of digits writes, where it has at most 32 bits.
+fn value_of(word: &[u8]) -> Option<u32>
+    ensures { MatchOption result (list_all is_ascii_digit word.now ≡ true → 2 ^ 32 ≤ value word.now)
+        (λ n. (list_all is_ascii_digit word.now ≡ true) × (n ≡ value word.now)) }
 {
     let mut value: u32 = 0;
-    for digit in digits {
-        value = value
-            .checked_mul(10)?
-            .checked_add(u32::from(*digit - b'0'))?;
+    for byte in word {
+        if !byte.is_ascii_digit() {
+            return None;
+        }
+        value = value.checked_mul(10)?.checked_add(u32::from(*byte - b'0'))?;
     }
     Some(value)
 }

@@ -7,6 +7,7 @@ ghost use Rattle.script_text.specs.Reading.{script_of, ReadsText, IsRefusal};
 use crate::fault::ScriptFault;
 use crate::line::read_line;
 use crate::lines::first_line;
+use crate::word::{is_fine, is_plain};
 use item_list::Items;
 use replay_model::limits::{LONG_BUFFERS, SMALL_BUFFERS};
 use replay_model::{Event, TextFault};
@@ -51,13 +52,14 @@ fn read_events(alloc: Global, text: &[u8]) -> Result<Vec<Event>, ScriptFault>
     ensures few { IfOk result (λ v. vec_len v ≤ length text.now) }
 {
     let mut events = Vec::new(alloc);
+    let plain = is_plain(text);
     let mut ended = false;
     let mut line = 0;
     let mut rest = Some(text);
     while let Some(text) = rest {
         let (first, behind) = first_line(text);
         line += 1;
-        match read_line(first, ended) {
+        match read_line(first, is_fine(first, plain), ended) {
             Ok(None) => {}
             Ok(Some(event)) => {
                 ended = is_end(event);

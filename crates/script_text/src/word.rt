@@ -1,24 +1,50 @@
 //! The words of a line, one after the other.
-ghost use Rattle.std.specs.Prelude.{◌≡◌, [], ◌∷◌, MatchOption, position, not};
+ghost use Rattle.std.specs.Prelude.{◌≡◌, [], ◌∷◌, MatchOption, position, not, true};
 ghost use Rattle.std.specs.List.{list_all};
 ghost use Rattle.replay_model.specs.Script.{is_blank, words_of};
 ghost use Rattle.replay_model.specs.TextFault.{is_byte_of_line};
+ghost use Rattle.script_text.specs.Lines.{is_plain, is_plain_byte};
 ghost use Rattle.script_text.specs.Words.{BeginsWithNoBlank, HasNone, HasOne, HasTwo, HasTicks, HasCall};
 
 use replay_model::TextFault;
 
-/// A blank stands between words.
+/// A blank stands between words. One comparison tells most other bytes from it.
 fn is_blank(byte: u8) -> bool
     ensures { result ≡ is_blank byte }
 {
-    matches!(byte, b' ' | b'\t')
+    byte <= b' ' && matches!(byte, b' ' | b'\t')
 }
 
 /// Whether the line has only bytes that a line may have: blanks and printable ASCII.
-pub fn has_bytes_of_line(line: &[u8]) -> bool
+fn has_bytes_of_line(line: &[u8]) -> bool
     ensures { result ≡ list_all is_byte_of_line line.now }
 {
     line.iter().all(|byte| is_byte_of_line(*byte))
+}
+
+/// Whether a text has only bytes that a line may have, and newlines. Each byte is looked at, so that vectors serve.
+pub fn is_plain(text: &[u8]) -> bool
+    ensures { result ≡ is_plain text.now }
+{
+    let mut plain = true;
+    for byte in text {
+        plain &= is_plain_byte(*byte);
+    }
+    plain
+}
+
+fn is_plain_byte(byte: u8) -> bool
+    ensures { result ≡ is_plain_byte byte }
+{
+    matches!(byte, b'\t' | b'\n' | b' '..=b'~')
+}
+
+/// Whether a line has only bytes that a line may have. They aren't looked at where its text is plain.
+pub fn is_fine(line: &[u8], plain: bool) -> bool
+    requires { plain ≡ true → list_all is_byte_of_line line.now ≡ true }
+    ensures { result ≡ list_all is_byte_of_line line.now }
+{
+    plain || has_bytes_of_line(line)
 }
 
 fn is_byte_of_line(byte: u8) -> bool

@@ -6,6 +6,7 @@ use Rattle.replay_model.specs.Script.{InRange}
 use Rattle.replay_model.specs.declared.event.Event.{Event}
 use Rattle.script_text.specs.Lines.{lines_of_rest}
 use Rattle.script_text.specs.Reading.{ReadsLine}
+use Rattle.script_text.proofs.Plain.{plain_lines, fine_first}
 use Rattle.script_text.proofs.Walking.{counted_some, faulty, more_skipped, more_read, fault_here, refusal, nothing_read, fewer, parts_left, bytes_left}
 use Rattle.script_text.proofs.script.read_events.Goals as goal
 use Rattle.script_text.proofs.script.read_events.Goals.{After-read_line}
@@ -16,11 +17,17 @@ loop-rest-init c = record {
   few_lines = omega arith;
   few = omega arith;
   in_range = let P : List Event → Type 0 = All InRange in subst P (sym c.new-events.ensures.items) (All-nil InRange);
+  fine_lines = λ e. plain_lines c.args.text.now (sym c.is_plain-plain.ensures ∙ e);
 }
 
 -- the lines of the rest
 here : (c : After-read_line) → lines_of_rest c.loop-rest.rest ≡ c.first_line.result.0.now ∷ lines_of_rest c.first_line.result.1
 here c = ap lines_of_rest c.in-Some.is ∙ c.first_line.ensures.lines
+
+-- the next line of a plain text has only bytes that a line may have
+pub is_fine-requires : goal.is_fine-requires
+is_fine-requires c = λ e. (fine_first _ c.first_line.result.0.now (lines_of_rest c.first_line.result.1)
+    (ap lines_of_rest c.in-Some.is ∙ c.first_line.ensures.lines) (c.loop-rest.invariant.fine_lines e)).0
 
 -- the counts, one line on
 counted : (c : After-read_line) → (c.loop-rest.line + 1 + parts_left c.first_line.result.1 ≤ length c.args.text.now + 1)
@@ -55,6 +62,7 @@ loop-rest-preserved-in-Ok-None c =
       few_lines = (counted (goal.at.loop-rest-preserved-in-Ok-None c).After-read_line).0;
       few = (counted (goal.at.loop-rest-preserved-in-Ok-None c).After-read_line).1;
       in_range = c.loop-rest.invariant.in_range;
+      fine_lines = λ e. (fine_first _ line more first (c.loop-rest.invariant.fine_lines e)).1;
     }
 
 pub loop-rest-preserved : goal.loop-rest-preserved
@@ -74,4 +82,5 @@ loop-rest-preserved c =
       few_lines = fewer.0;
       few = let pushed = c.in_ok-push-in-Ok-Some.ensures.len in rw pushed (fewer.2 (counted_some line told.0));
       in_range = rw c.in_ok-push-in-Ok-Some.ensures.items (All-push InRange c.loop-rest.events.items event c.loop-rest.invariant.in_range in_range);
+      fine_lines = λ e. (fine_first _ line more first (c.loop-rest.invariant.fine_lines e)).1;
     }
