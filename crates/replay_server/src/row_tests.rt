@@ -1,218 +1,270 @@
-//! The worker's rules, row by row, on the calls of the server machine.
+//! The worker's rules, row by row, on the calls of the server machine. The packets are of call 65536 of process 1 of
+//! machine 2, where they are of no other.
 
 use crate::trial::{
-    Added, Line, Piece, Sent, ack, asking, booted, call, first_other, last_piece, piece, plain,
-    probe,
+    ACK, ACKED, Added, CALL, CallerPacket, Line, PROBE, RESULT, ServerPacket, booted, first_other,
 };
-use call_rules::{Did, Unfit};
+use Added::{Nothing, Packet, Run};
+use Line::{One, Take, Two};
+use call_rules::Did;
+use call_rules::Unfit::{Busy, Lost, Older, Same, Skipped, Unknown};
 use rpc_header::Kind;
 use std::test::Fail;
 
+/// The call, asking for an acknowledgement.
+const ASKING: CallerPacket = CallerPacket {
+    please_ack: true,
+    ..CALL
+};
+
+const EARLIER: CallerPacket = CallerPacket {
+    number: 65535,
+    ..CALL
+};
+
+const LATER: CallerPacket = CallerPacket {
+    number: 65537,
+    ..CALL
+};
+
+const LATER_PROBE: CallerPacket = CallerPacket {
+    number: 65537,
+    ..PROBE
+};
+
+/// The first pieces of a call of three.
+const FIRST: CallerPacket = CallerPacket {
+    last: false,
+    len: 1440,
+    ..ASKING
+};
+
+const SECOND: CallerPacket = CallerPacket {
+    fragment: 1,
+    ..FIRST
+};
+
+const LAST: CallerPacket = CallerPacket {
+    fragment: 2,
+    len: 5,
+    ..CALL
+};
+
+/// The last piece of a call of two.
+const LAST_OF_TWO: CallerPacket = CallerPacket {
+    fragment: 1,
+    ..LAST
+};
+
+const SECOND_ACKED: ServerPacket = ServerPacket {
+    fragment: 1,
+    ..ACKED
+};
+
+/// The exception for arguments that can't be read.
+const SIGNAL: ServerPacket = ServerPacket {
+    kind: Kind::Signal,
+    len: 2,
+    ..ACKED
+};
+
+static FETCHED_AGAIN: [Line; 21] = [
+    Take(CALL),
+    One(Did::Claims, Nothing),
+    One(Did::Admits, Nothing),
+    One(Did::Runs, Run(0, false, 0)),
+    One(Did::Replies, Packet(RESULT)),
+    // The call's last piece once more, a probe, and an acknowledgement of a piece that isn't followed.
+    Take(ASKING),
+    One(Did::Claims, Nothing),
+    One(Did::Fetches, Nothing),
+    One(Did::Resends, Packet(RESULT)),
+    Take(PROBE),
+    One(Did::Claims, Nothing),
+    One(Did::Fetches, Nothing),
+    One(Did::Resends, Packet(RESULT)),
+    Take(ACK),
+    One(Did::Claims, Nothing),
+    One(Did::Fetches, Nothing),
+    One(Did::Drops(Same), Nothing),
+    Take(FIRST),
+    One(Did::Drops(Same), Nothing),
+    Take(EARLIER),
+    One(Did::Drops(Older), Nothing),
+];
+
 #[test]
 fn a_call_runs_and_its_reply_is_fetched_again(rt: HostRuntime) -> Result<(), Fail> {
-    use Added::{Nothing, Packet, Run};
     let mut server = booted(rt.alloc())?;
-    let result = Packet(plain(Kind::Result, 0));
-    let lines = [
-        Line::Take(call(65536)),
-        Line::One(Did::Claims, Nothing),
-        Line::One(Did::Admits, Nothing),
-        Line::One(Did::Runs, Run(0, false, 0)),
-        Line::One(Did::Replies, result),
-        // The call's last piece once more, a probe, and an acknowledgement of a piece that isn't followed.
-        Line::Take(asking(call(65536))),
-        Line::One(Did::Claims, Nothing),
-        Line::One(Did::Fetches, Nothing),
-        Line::One(Did::Resends, result),
-        Line::Take(probe(65536)),
-        Line::One(Did::Claims, Nothing),
-        Line::One(Did::Fetches, Nothing),
-        Line::One(Did::Resends, result),
-        Line::Take(ack(65536, 0)),
-        Line::One(Did::Claims, Nothing),
-        Line::One(Did::Fetches, Nothing),
-        Line::One(Did::Drops(Unfit::Same), Nothing),
-        Line::Take(piece(65536, 0)),
-        Line::One(Did::Drops(Unfit::Same), Nothing),
-        Line::Take(call(65535)),
-        Line::One(Did::Drops(Unfit::Older), Nothing),
-    ];
-    assert_eq!(rt; first_other(rt.alloc(), &mut server, &lines)?, None);
+    assert_eq!(rt; first_other(rt.alloc(), &mut server, &FETCHED_AGAIN)?, None);
     Ok(())
 }
+
+static WHILE_RUNNING: [Line; 19] = [
+    Take(CALL),
+    One(Did::Claims, Nothing),
+    One(Did::Admits, Nothing),
+    Take(CALL),
+    Two(Did::Drops(Same), Nothing),
+    Take(ASKING),
+    Two(Did::Acks, Packet(ACKED)),
+    Take(SECOND),
+    Two(Did::Acks, Packet(SECOND_ACKED)),
+    Take(PROBE),
+    Two(Did::Acks, Packet(ACKED)),
+    Take(ACK),
+    Two(Did::Drops(Busy), Nothing),
+    Take(LATER),
+    Two(Did::Drops(Busy), Nothing),
+    Take(LATER_PROBE),
+    Two(Did::Drops(Unknown), Nothing),
+    Take(EARLIER),
+    Two(Did::Drops(Older), Nothing),
+];
 
 #[test]
 fn packets_that_come_while_a_call_runs(rt: HostRuntime) -> Result<(), Fail> {
-    use Added::{Nothing, Packet};
     let mut server = booted(rt.alloc())?;
-    let lines = [
-        Line::Take(call(65536)),
-        Line::One(Did::Claims, Nothing),
-        Line::One(Did::Admits, Nothing),
-        Line::Take(call(65536)),
-        Line::Two(Did::Drops(Unfit::Same), Nothing),
-        Line::Take(asking(call(65536))),
-        Line::Two(Did::Acks, Packet(plain(Kind::Ack, 0))),
-        Line::Take(piece(65536, 3)),
-        Line::Two(Did::Acks, Packet(plain(Kind::Ack, 3))),
-        Line::Take(probe(65536)),
-        Line::Two(Did::Acks, Packet(plain(Kind::Ack, 0))),
-        Line::Take(ack(65536, 0)),
-        Line::Two(Did::Drops(Unfit::Busy), Nothing),
-        Line::Take(call(65537)),
-        Line::Two(Did::Drops(Unfit::Busy), Nothing),
-        Line::Take(probe(65537)),
-        Line::Two(Did::Drops(Unfit::Unknown), Nothing),
-        Line::Take(call(65535)),
-        Line::Two(Did::Drops(Unfit::Older), Nothing),
-    ];
-    assert_eq!(rt; first_other(rt.alloc(), &mut server, &lines)?, None);
+    assert_eq!(rt; first_other(rt.alloc(), &mut server, &WHILE_RUNNING)?, None);
     Ok(())
 }
+
+static GATHERED: [Line; 23] = [
+    Take(SECOND),
+    One(Did::Drops(Skipped), Nothing),
+    Take(FIRST),
+    One(Did::Claims, Nothing),
+    One(Did::Begins, Packet(ACKED)),
+    Take(LAST),
+    One(Did::Claims, Nothing),
+    One(Did::Takes, Nothing),
+    One(Did::Drops(Skipped), Nothing),
+    Take(SECOND),
+    One(Did::Claims, Nothing),
+    One(Did::Takes, Nothing),
+    One(Did::Rests, Packet(SECOND_ACKED)),
+    Take(FIRST),
+    One(Did::Claims, Nothing),
+    One(Did::Takes, Nothing),
+    One(Did::Rests, Packet(ACKED)),
+    Take(LAST),
+    One(Did::Claims, Nothing),
+    One(Did::Takes, Nothing),
+    One(Did::Admits, Nothing),
+    One(Did::Runs, Run(2885, true, 2)),
+    One(Did::Replies, Packet(SIGNAL)),
+];
 
 #[test]
 fn arguments_are_gathered_piece_by_piece(rt: HostRuntime) -> Result<(), Fail> {
-    use Added::{Nothing, Packet, Run};
     let mut server = booted(rt.alloc())?;
-    let signal = Sent {
-        len: 2,
-        ..plain(Kind::Signal, 0)
-    };
-    let lines = [
-        Line::Take(piece(65536, 1)),
-        Line::One(Did::Drops(Unfit::Skipped), Nothing),
-        Line::Take(piece(65536, 0)),
-        Line::One(Did::Claims, Nothing),
-        Line::One(Did::Begins, Packet(plain(Kind::Ack, 0))),
-        Line::Take(last_piece(65536, 2)),
-        Line::One(Did::Claims, Nothing),
-        Line::One(Did::Takes, Nothing),
-        Line::One(Did::Drops(Unfit::Skipped), Nothing),
-        Line::Take(piece(65536, 1)),
-        Line::One(Did::Claims, Nothing),
-        Line::One(Did::Takes, Nothing),
-        Line::One(Did::Rests, Packet(plain(Kind::Ack, 1))),
-        Line::Take(piece(65536, 0)),
-        Line::One(Did::Claims, Nothing),
-        Line::One(Did::Takes, Nothing),
-        Line::One(Did::Rests, Packet(plain(Kind::Ack, 0))),
-        Line::Take(last_piece(65536, 2)),
-        Line::One(Did::Claims, Nothing),
-        Line::One(Did::Takes, Nothing),
-        Line::One(Did::Admits, Nothing),
-        Line::One(Did::Runs, Run(2885, true, 2)),
-        Line::One(Did::Replies, Packet(signal)),
-    ];
-    assert_eq!(rt; first_other(rt.alloc(), &mut server, &lines)?, None);
+    assert_eq!(rt; first_other(rt.alloc(), &mut server, &GATHERED)?, None);
     Ok(())
 }
+
+static WHILE_GATHERED: [Line; 22] = [
+    Take(FIRST),
+    One(Did::Claims, Nothing),
+    One(Did::Begins, Packet(ACKED)),
+    Take(ACK),
+    One(Did::Drops(Busy), Nothing),
+    Take(PROBE),
+    One(Did::Drops(Busy), Nothing),
+    // A worker has what is gathered in hand.
+    Take(SECOND),
+    One(Did::Claims, Nothing),
+    One(Did::Takes, Nothing),
+    Take(SECOND),
+    Two(Did::Drops(Busy), Nothing),
+    Take(ACK),
+    Two(Did::Drops(Busy), Nothing),
+    Take(PROBE),
+    Two(Did::Drops(Busy), Nothing),
+    Take(LATER),
+    Two(Did::Drops(Busy), Nothing),
+    One(Did::Rests, Packet(SECOND_ACKED)),
+    // A later call takes the place of what is gathered.
+    Take(LATER),
+    Two(Did::Claims, Nothing),
+    Two(Did::Admits, Nothing),
+];
 
 #[test]
 fn packets_that_come_while_arguments_are_gathered(rt: HostRuntime) -> Result<(), Fail> {
-    use Added::{Nothing, Packet};
     let mut server = booted(rt.alloc())?;
-    let busy = Did::Drops(Unfit::Busy);
-    let lines = [
-        Line::Take(piece(65536, 0)),
-        Line::One(Did::Claims, Nothing),
-        Line::One(Did::Begins, Packet(plain(Kind::Ack, 0))),
-        Line::Take(ack(65536, 0)),
-        Line::One(busy, Nothing),
-        Line::Take(probe(65536)),
-        Line::One(busy, Nothing),
-        // A worker has what is gathered in hand.
-        Line::Take(piece(65536, 1)),
-        Line::One(Did::Claims, Nothing),
-        Line::One(Did::Takes, Nothing),
-        Line::Take(piece(65536, 1)),
-        Line::Two(busy, Nothing),
-        Line::Take(ack(65536, 0)),
-        Line::Two(busy, Nothing),
-        Line::Take(probe(65536)),
-        Line::Two(busy, Nothing),
-        Line::Take(call(65537)),
-        Line::Two(busy, Nothing),
-        Line::One(Did::Rests, Packet(plain(Kind::Ack, 1))),
-        // A later call takes the place of what is gathered.
-        Line::Take(call(65537)),
-        Line::Two(Did::Claims, Nothing),
-        Line::Two(Did::Admits, Nothing),
-    ];
-    assert_eq!(rt; first_other(rt.alloc(), &mut server, &lines)?, None);
+    assert_eq!(rt;
+        first_other(rt.alloc(), &mut server, &WHILE_GATHERED)?,
+        None
+    );
     Ok(())
 }
+
+static WHILE_SENT: [Line; 21] = [
+    Take(PROBE),
+    One(Did::Drops(Unknown), Nothing),
+    Take(ACK),
+    One(Did::Drops(Unknown), Nothing),
+    Take(CALL),
+    One(Did::Claims, Nothing),
+    One(Did::Admits, Nothing),
+    One(Did::Runs, Run(0, false, 0)),
+    One(Did::Replies, Packet(RESULT)),
+    Take(PROBE),
+    One(Did::Claims, Nothing),
+    One(Did::Fetches, Nothing),
+    Take(CALL),
+    Two(Did::Drops(Busy), Nothing),
+    Take(ACK),
+    Two(Did::Drops(Busy), Nothing),
+    Take(LATER),
+    Two(Did::Drops(Busy), Nothing),
+    Take(PROBE),
+    Two(Did::Acks, Packet(ACKED)),
+    One(Did::Resends, Packet(RESULT)),
+];
 
 #[test]
 fn packets_that_come_while_a_reply_is_sent_again(rt: HostRuntime) -> Result<(), Fail> {
-    use Added::{Nothing, Packet, Run};
     let mut server = booted(rt.alloc())?;
-    let result = Packet(plain(Kind::Result, 0));
-    let busy = Did::Drops(Unfit::Busy);
-    let lines = [
-        Line::Take(probe(65536)),
-        Line::One(Did::Drops(Unfit::Unknown), Nothing),
-        Line::Take(ack(65536, 0)),
-        Line::One(Did::Drops(Unfit::Unknown), Nothing),
-        Line::Take(call(65536)),
-        Line::One(Did::Claims, Nothing),
-        Line::One(Did::Admits, Nothing),
-        Line::One(Did::Runs, Run(0, false, 0)),
-        Line::One(Did::Replies, result),
-        Line::Take(probe(65536)),
-        Line::One(Did::Claims, Nothing),
-        Line::One(Did::Fetches, Nothing),
-        Line::Take(call(65536)),
-        Line::Two(busy, Nothing),
-        Line::Take(ack(65536, 0)),
-        Line::Two(busy, Nothing),
-        Line::Take(call(65537)),
-        Line::Two(busy, Nothing),
-        Line::Take(probe(65536)),
-        Line::Two(Did::Acks, Packet(plain(Kind::Ack, 0))),
-        Line::One(Did::Resends, result),
-    ];
-    assert_eq!(rt; first_other(rt.alloc(), &mut server, &lines)?, None);
+    assert_eq!(rt; first_other(rt.alloc(), &mut server, &WHILE_SENT)?, None);
     Ok(())
 }
 
-/// The lines by which two workers claim packets for one entry, and the second loses.
-fn lost(first: Piece, did: Did, added: Added, second: Piece) -> [Line; 6] {
-    [
-        Line::Take(first),
-        Line::Take(second),
-        Line::One(Did::Claims, Added::Nothing),
-        Line::Two(Did::Claims, Added::Nothing),
-        Line::One(did, added),
-        Line::Two(Did::Drops(Unfit::Lost), Added::Nothing),
-    ]
-}
+/// Two workers claim packets for one entry, and the second loses.
+static LOST: [Line; 28] = [
+    Take(FIRST),
+    Take(FIRST),
+    One(Did::Claims, Nothing),
+    Two(Did::Claims, Nothing),
+    One(Did::Begins, Packet(ACKED)),
+    Two(Did::Drops(Lost), Nothing),
+    Take(LAST_OF_TWO),
+    Take(LAST_OF_TWO),
+    One(Did::Claims, Nothing),
+    Two(Did::Claims, Nothing),
+    One(Did::Takes, Nothing),
+    Two(Did::Drops(Lost), Nothing),
+    One(Did::Admits, Nothing),
+    One(Did::Runs, Run(1445, true, 2)),
+    One(Did::Replies, Packet(SIGNAL)),
+    Take(PROBE),
+    Take(LATER),
+    One(Did::Claims, Nothing),
+    Two(Did::Claims, Nothing),
+    One(Did::Fetches, Nothing),
+    Two(Did::Drops(Lost), Nothing),
+    One(Did::Resends, Packet(SIGNAL)),
+    Take(LATER),
+    Take(PROBE),
+    One(Did::Claims, Nothing),
+    Two(Did::Claims, Nothing),
+    One(Did::Admits, Nothing),
+    Two(Did::Drops(Lost), Nothing),
+];
 
 #[test]
 fn the_slower_of_two_workers_loses(rt: HostRuntime) -> Result<(), Fail> {
-    use Added::{Nothing, Packet, Run};
-    let alloc = rt.alloc();
-    let mut server = booted(alloc)?;
-    let acked = Packet(plain(Kind::Ack, 0));
-    let begin = lost(piece(1, 0), Did::Begins, acked, piece(1, 0));
-    assert_eq!(rt; first_other(alloc, &mut server, &begin)?, None);
-    let more = lost(last_piece(1, 1), Did::Takes, Nothing, last_piece(1, 1));
-    assert_eq!(rt; first_other(alloc, &mut server, &more)?, None);
-    let rest = [
-        Line::One(Did::Admits, Nothing),
-        Line::One(Did::Runs, Run(1445, true, 2)),
-        Line::One(
-            Did::Replies,
-            Packet(Sent {
-                len: 2,
-                ..plain(Kind::Signal, 0)
-            }),
-        ),
-    ];
-    assert_eq!(rt; first_other(alloc, &mut server, &rest)?, None);
-    let fetch = lost(probe(1), Did::Fetches, Nothing, probe(1));
-    assert_eq!(rt; first_other(alloc, &mut server, &fetch)?, None);
-    let mut other = booted(alloc)?;
-    let admit = lost(call(2), Did::Admits, Nothing, call(2));
-    assert_eq!(rt; first_other(alloc, &mut other, &admit)?, None);
+    let mut server = booted(rt.alloc())?;
+    assert_eq!(rt; first_other(rt.alloc(), &mut server, &LOST)?, None);
     Ok(())
 }

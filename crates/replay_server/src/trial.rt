@@ -5,12 +5,9 @@ use crate::{Adds, ServerMachine, Worked};
 use call_rules::Did;
 use ff_io::Station;
 use replay_packets::{Outgoing, SERVER, arrive};
-use rpc_header::{Activity, CallId, Export, Header, Kind, MAX_DATA, fits, number};
+use rpc_header::{Activity, CallId, Export, Header, Kind, fits, number};
 use std::alloc::Global;
 use std::test::Fail;
-
-/// The data of pieces.
-static DATA: [u8; MAX_DATA] = [7; MAX_DATA];
 
 /// The test service, as it is exported at the boot in second 1.
 pub const SERVICE: Export = Export {
@@ -21,7 +18,7 @@ pub const SERVICE: Export = Export {
 /// A packet of a caller: its kind, whether it asks for an acknowledgement and is the last piece, the number of its
 /// call, its fragment, and how many bytes of data it has.
 #[derive(Clone, Copy)]
-pub struct Piece {
+pub struct CallerPacket {
     pub kind: Kind,
     pub please_ack: bool,
     pub last: bool,
@@ -31,63 +28,29 @@ pub struct Piece {
 }
 
 /// The whole of a call.
-pub fn call(number: u64) -> Piece {
-    Piece {
-        kind: Kind::Call,
-        please_ack: false,
-        last: true,
-        number,
-        fragment: 0,
-        len: 0,
-    }
-}
+pub const CALL: CallerPacket = CallerPacket {
+    kind: Kind::Call,
+    please_ack: false,
+    last: true,
+    number: 65536,
+    fragment: 0,
+    len: 0,
+};
 
-/// A piece before the last.
-pub fn piece(number: u64, fragment: u16) -> Piece {
-    Piece {
-        please_ack: true,
-        last: false,
-        fragment,
-        len: MAX_DATA,
-        ..call(number)
-    }
-}
+pub const ACK: CallerPacket = CallerPacket {
+    kind: Kind::Ack,
+    ..CALL
+};
 
-/// The last piece of a call of several, with five bytes.
-pub fn last_piece(number: u64, fragment: u16) -> Piece {
-    Piece {
-        fragment,
-        len: 5,
-        ..call(number)
-    }
-}
-
-/// A packet that asks for an acknowledgement.
-pub fn asking(piece: Piece) -> Piece {
-    Piece {
-        please_ack: true,
-        ..piece
-    }
-}
-
-pub fn ack(number: u64, fragment: u16) -> Piece {
-    Piece {
-        kind: Kind::Ack,
-        fragment,
-        ..call(number)
-    }
-}
-
-pub fn probe(number: u64) -> Piece {
-    Piece {
-        kind: Kind::Probe,
-        ..asking(call(number))
-    }
-}
+pub const PROBE: CallerPacket = CallerPacket {
+    kind: Kind::Probe,
+    please_ack: true,
+    ..CALL
+};
 
 /// A packet of the server, as the caller's, with its reason and its export.
 #[derive(Clone, Copy, PartialEq, Eq, Debug)]
-pub struct Sent {
+pub struct ServerPacket {
     pub kind: Kind,
     pub please_ack: bool,
     pub last: bool,
@@ -97,18 +60,22 @@ pub struct Sent {
     pub export: Export,
 }
 
-/// An answer in one piece without data.
-pub fn plain(kind: Kind, fragment: u16) -> Sent {
-    Sent {
-        kind,
-        please_ack: false,
-        last: true,
-        reason: 0,
-        fragment,
-        len: 0,
-        export: SERVICE,
-    }
-}
+/// An acknowledgement of the first piece.
+pub const ACKED: ServerPacket = ServerPacket {
+    kind: Kind::Ack,
+    please_ack: false,
+    last: true,
+    reason: 0,
+    fragment: 0,
+    len: 0,
+    export: SERVICE,
+};
+
+/// A result without data.
+pub const RESULT: ServerPacket = ServerPacket {
+    kind: Kind::Result,
+    ..ACKED
+};
 
 /// What a step adds.
 #[derive(Clone, Copy, PartialEq, Eq, Debug)]
@@ -116,13 +83,14 @@ pub enum Added {
     Nothing,
     /// A run: how many bytes its arguments and its reply have, and whether it is a signal.
     Run(u32, bool, u32),
-    Packet(Sent),
-    Rejection(Sent),
+    Packet(ServerPacket),
+    Rejection(ServerPacket),
 }
 
 /// One line of a table: a packet comes, or worker 1 or 2 does a step in which it does and adds this.
+#[derive(Clone, Copy)]
 pub enum Line {
-    Take(Piece),
+    Take(CallerPacket),
     One(Did, Added),
     Two(Did, Added),
 }
@@ -150,20 +118,20 @@ pub fn take(
 }
 
 /// The header of a packet of process 1 of machine 2.
-pub fn header_of(piece: Piece) -> Result<Header, Fail> {
-    let number = number(piece.number).ok_or("a call number")?;
+pub fn header_of(packet: CallerPacket) -> Result<Header, Fail> {
+    let number = number(packet.number).ok_or("a call number")?;
     let activity = Activity {
         machine: 2,
         process: 1,
     };
     Ok(Header {
-        kind: piece.kind,
-        please_ack: piece.please_ack,
-        last: piece.last,
+        kind: packet.kind,
+        please_ack: packet.please_ack,
+        last: packet.last,
         reason: 0,
         call: CallId { activity, number },
         hint: 0,
-        fragment: piece.fragment,
+        fragment: packet.fragment,
         export: SERVICE,
         procedure: 0,
     })
@@ -171,16 +139,24 @@ pub fn header_of(piece: Piece) -> Result<Header, Fail> {
 
 pub const CLIENT: Station = Station { machine: 2 };
 
-fn take_piece(alloc: Global, server: &mut ServerMachine, piece: Piece) -> Result<bool, Fail> {
-    let Some(payload) = DATA.get(..piece.len) else {
-        return Err("a piece that fits".into());
-    };
-    take(alloc, server, CLIENT, header_of(piece)?, payload)
+fn take_packet(
+    alloc: Global,
+    server: &mut ServerMachine,
+    packet: CallerPacket,
+) -> Result<bool, Fail> {
+    let payload = vec![in alloc; 7u8; packet.len]?;
+    take(
+        alloc,
+        server,
+        CLIENT,
+        header_of(packet)?,
+        payload.as_slice(),
+    )
 }
 
-fn sent(packet: &Outgoing) -> Sent {
+fn sent(packet: &Outgoing) -> ServerPacket {
     let header = packet.header();
-    Sent {
+    ServerPacket {
         kind: header.kind,
         please_ack: header.please_ack,
         last: header.last,
@@ -191,19 +167,30 @@ fn sent(packet: &Outgoing) -> Sent {
     }
 }
 
+/// What a step adds, as a table says it.
+pub fn added_by(adds: &Adds) -> Added {
+    match adds {
+        Adds::Nothing => Added::Nothing,
+        Adds::Run(run) => Added::Run(run.arguments.len, run.signal, run.reply.len),
+        Adds::Packet(packet) => Added::Packet(sent(packet)),
+        Adds::Rejection(packet) => Added::Rejection(sent(packet)),
+    }
+}
+
 /// What a worker did and added.
-pub fn told(worked: Worked) -> Option<(Did, Added)> {
+pub fn told(worked: &Worked) -> Option<(Did, Added)> {
     match worked {
         Worked::Impossible | Worked::Idle => None,
-        Worked::Step(step) => {
-            let added = match step.adds {
-                Adds::Nothing => Added::Nothing,
-                Adds::Run(run) => Added::Run(run.arguments.len, run.signal, run.reply.len),
-                Adds::Packet(packet) => Added::Packet(sent(&packet)),
-                Adds::Rejection(packet) => Added::Rejection(sent(&packet)),
-            };
-            Some((step.did, added))
-        }
+        Worked::Step(step) => Some((step.did, added_by(&step.adds))),
+    }
+}
+
+/// Whether a line comes about.
+fn comes_about(alloc: Global, server: &mut ServerMachine, line: Line) -> Result<bool, Fail> {
+    match line {
+        Line::Take(packet) => take_packet(alloc, server, packet),
+        Line::One(did, added) => Ok(told(&server.work(alloc, 1)?) == Some((did, added))),
+        Line::Two(did, added) => Ok(told(&server.work(alloc, 2)?) == Some((did, added))),
     }
 }
 
@@ -214,12 +201,7 @@ pub fn first_other(
     lines: &[Line],
 ) -> Result<Option<usize>, Fail> {
     for (i, line) in lines.iter().enumerate() {
-        let holds = match line {
-            Line::Take(piece) => take_piece(alloc, server, *piece)?,
-            Line::One(did, added) => told(server.work(alloc, 1)?) == Some((*did, *added)),
-            Line::Two(did, added) => told(server.work(alloc, 2)?) == Some((*did, *added)),
-        };
-        if !holds {
+        if !comes_about(alloc, server, *line)? {
             return Ok(Some(i));
         }
     }
