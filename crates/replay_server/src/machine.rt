@@ -129,7 +129,8 @@ impl ServerMachine {
         let mut total = self.total();
         let step = on_task(alloc, &mut total, task, &mut entry)?;
         self.put_entry(call.activity, entry);
-        self.put_worker(place, step.worker, total);
+        self.put_total(total);
+        self.put_worker(place, step.worker);
         Ok(Stepped {
             number: call.number,
             did: step.did,
@@ -149,8 +150,7 @@ impl ServerMachine {
         };
         let call = packet.header().call;
         let step = self.claim(alloc, packet)?;
-        let total = self.total();
-        self.put_worker(place, step.worker, total);
+        self.put_worker(place, step.worker);
         Ok(Worked::Step(Stepped {
             number: call.number,
             did: step.did,
@@ -180,6 +180,12 @@ impl ServerMachine {
         self.total
     }
 
+    fn put_total(&mut self, total: u32)
+        ensures { self.new ≡ record self.old { total = total } }
+    {
+        self.total = total;
+    }
+
     /// Takes a worker's task out, and leaves it idle.
     fn take_task(&mut self, place: usize) -> Option<Task>
         requires { place < length self.old.workers }
@@ -189,13 +195,11 @@ impl ServerMachine {
         self.workers[place].take()
     }
 
-    /// A worker has done a step, after which the test service has this total.
-    fn put_worker(&mut self, place: usize, worker: Worker, total: u32)
+    fn put_worker(&mut self, place: usize, worker: Worker)
         requires { place < length self.old.workers }
-        ensures { self.new ≡ record self.old { workers = slice_set self.old.workers place worker; total = total } }
+        ensures { self.new ≡ record self.old { workers = slice_set self.old.workers place worker } }
     {
         self.workers[place] = worker;
-        self.total = total;
     }
 
     /// Takes the oldest ready packet.
