@@ -101,7 +101,8 @@ impl ServerMachine {
         Ok(true)
     }
 
-    /// One step of a worker. Workers are numbered from 1. `Err` only where memory is short.
+    /// One step of a worker. Workers are numbered from 1. `Err` only where memory is short: then the packet that the
+    /// worker had in hand is lost.
     pub fn work(&mut self, alloc: Global, number: u8) -> Result<Worked, AllocError>
         requires { 1 ≤ number }
         ensures outcome { IfOk result (λ worked. (w : World) → WorksAs (record w { server = self.old }) number self.new worked
