@@ -72,9 +72,9 @@ abbrev parts : Server → List rules.Worker → List Entry → ℕ → Server
 parts s ws es t = record s { workers = ws; entries = es; total = t }
 
 -- a worker that holds a packet has done its step: e1 is its entry and s1 the server without it, t1 the total, e2 and
--- t2 are what they become, s3 has the entry again, and s4 the worker
-pub goes_on : (w : World) (s0 s1 s3 s4 : Server) (j : ℕ) (p : Packet) (s : Stage) (a : Activity) (e1 e2 : Entry) (t1 t2 : ℕ) (step : Step) (n : CallNumber) → a ≡ p.header.call.activity → n.value ≡ p.header.call.number → e1 ≡ unwrap_or (entry_at s0.entries a) Empty → s1 ≡ record s0 { entries = with_entry s0.entries a Empty } → t1 ≡ s1.total → Exchanges (row_at p s t1 e1) e1 e2 step → t2 ≡ total_at p s t1 → s3 ≡ record s1 { entries = with_entry s1.entries a e2 } → s4 ≡ record s3 { workers = set s3.workers j step.worker; total = t2 } → StepsAs w (j + 1) s4 (record { number = n; did = step.did; adds = step.adds }) (work_event (record w { server = s0 }) (j + 1) (Some (worker_at p s)))
-goes_on w s0 s1 s3 s4 j p s a e1 e2 t1 t2 step n activity number taken without total made after with settled =
+-- t2 are what they become, s2 has the entry again, s3 the total, and s4 the worker
+pub goes_on : (w : World) (s0 s1 s2 s3 s4 : Server) (j : ℕ) (p : Packet) (s : Stage) (a : Activity) (e1 e2 : Entry) (t1 t2 : ℕ) (step : Step) (n : CallNumber) → a ≡ p.header.call.activity → n.value ≡ p.header.call.number → e1 ≡ unwrap_or (entry_at s0.entries a) Empty → s1 ≡ record s0 { entries = with_entry s0.entries a Empty } → t1 ≡ s1.total → Exchanges (row_at p s t1 e1) e1 e2 step → t2 ≡ total_at p s t1 → s2 ≡ record s1 { entries = with_entry s1.entries a e2 } → s3 ≡ record s2 { total = t2 } → s4 ≡ record s3 { workers = set s3.workers j step.worker } → StepsAs w (j + 1) s4 (record { number = n; did = step.did; adds = step.adds }) (work_event (record w { server = s0 }) (j + 1) (Some (worker_at p s)))
+goes_on w s0 s1 s2 s3 s4 j p s a e1 e2 t1 t2 step n activity number taken without total made after with summed settled =
     let w' : World = record w { server = s0 } in
     let row : rules.Step = row_at p s s0.total (entry_of w' p) in
     let total' : t1 ≡ s0.total = total ∙ ap (λ (x : Server). x.total) without in
@@ -87,8 +87,8 @@ goes_on w s0 s1 s3 s4 j p s a e1 e2 t1 t2 step n activity number taken without t
     ∙ (put_back s0.entries a row.entry ∙ ap (λ (x : Activity). exchanged s0.entries x row.entry) activity) in
     let server : s4 ≡ parts s0 (set s0.workers j step.worker) (with_entry (with_entry s0.entries a Empty) a e2) t2 =
     settled
-    ∙ ap (λ (x : Server). record x { workers = set x.workers j step.worker; total = t2 })
-    (with ∙ ap (λ (x : Server). record x { entries = with_entry x.entries a e2 }) without) in
+    ∙ ap (λ (x : Server). record x { workers = set x.workers j step.worker })
+    (summed ∙ ap (λ (x : Server). record x { total = t2 }) (with ∙ ap (λ (x : Server). record x { entries = with_entry x.entries a e2 }) without)) in
     let server' : s4 ≡ parts s0 (set s0.workers j row.worker) (exchanged s0.entries p.header.call.activity row.entry) (total_at p s s0.total) =
     server
     ∙ (ap (λ (x : rules.Worker). parts s0 (set s0.workers j x) (with_entry (with_entry s0.entries a Empty) a e2) t2) h.worker
@@ -99,19 +99,17 @@ goes_on w s0 s1 s3 s4 j p s a e1 e2 t1 t2 step n activity number taken without t
     (steps_at w (record s0 { total = total_at p s s0.total }) s4 j p row x server' number h.did h.adds)
 
 -- an idle worker has taken the packet p: s1 is the server without it, and s2 has the worker again
-pub claims : (w : World) (s0 s1 s2 : Server) (j : ℕ) (p : Packet) (rest : List Packet) (t : ℕ) (step : Step) (n : CallNumber) → n.value ≡ p.header.call.number → s0.ready ≡ p ∷ rest → s1 ≡ record s0 { ready = rest } → Keeps (on_idle (asked_of s1.exports.rows p) (entry_at s1.entries p.header.call.activity) p) step → t ≡ s1.total → s2 ≡ record s1 { workers = set s1.workers j step.worker; total = t } → StepsAs (record w { server = s0 }) (j + 1) s2 (record { number = n; did = step.did; adds = step.adds }) (claims_next (record w { server = s0 }) (j + 1) s0.ready)
+pub claims : (w : World) (s0 s1 s2 : Server) (j : ℕ) (p : Packet) (rest : List Packet) (step : Step) (n : CallNumber) → n.value ≡ p.header.call.number → s0.ready ≡ p ∷ rest → s1 ≡ record s0 { ready = rest } → Keeps (on_idle (asked_of s1.exports.rows p) (entry_at s1.entries p.header.call.activity) p) step → s2 ≡ record s1 { workers = set s1.workers j step.worker } → StepsAs (record w { server = s0 }) (j + 1) s2 (record { number = n; did = step.did; adds = step.adds }) (claims_next (record w { server = s0 }) (j + 1) s0.ready)
 unfolding claims_next
-claims w s0 s1 s2 j p rest t step n number ready without made total settled =
+claims w s0 s1 s2 j p rest step n number ready without made settled =
     let row : rules.Step = on_idle (asked_of s0.exports.rows p) (entry_at s0.entries p.header.call.activity) p in
     let h : Keeps row step = subst (λ (x : Server). Keeps (on_idle (asked_of x.exports.rows p) (entry_at x.entries p.header.call.activity) p) step) without made in
     let x : Stepped = record { number = n; did = step.did; adds = step.adds } in
-    let total' : t ≡ s0.total = total ∙ ap (λ (y : Server). y.total) without in
     let server : s2 ≡ record s0 { ready = rest; workers = set s0.workers j row.worker; entries = exchanged s0.entries p.header.call.activity row.entry } =
     settled
-    ∙ (ap (λ (y : Server). record y { workers = set y.workers j step.worker; total = t }) without
-    ∙ (ap (λ (u : ℕ). record s0 { ready = rest; workers = set s0.workers j step.worker; total = u }) total'
+    ∙ (ap (λ (y : Server). record y { workers = set y.workers j step.worker }) without
     ∙ (ap (λ (y : rules.Worker). record s0 { ready = rest; workers = set s0.workers j y }) h.worker
-    ∙ ap (λ (o : Option Entry). record s0 { ready = rest; workers = set s0.workers j row.worker; entries = exchanged s0.entries p.header.call.activity o }) (sym h.entry)))) in
+    ∙ ap (λ (o : Option Entry). record s0 { ready = rest; workers = set s0.workers j row.worker; entries = exchanged s0.entries p.header.call.activity o }) (sym h.entry))) in
     let P : List Packet → Type 0 = λ ps. StepsAs (record w { server = s0 }) (j + 1) s2 x (claims_next (record w { server = s0 }) (j + 1) ps) in
     subst P (sym ready) (steps_at (record w { server = s0 }) (record s0 { ready = rest }) s2 j p row x server number h.did h.adds)
 

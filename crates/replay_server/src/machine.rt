@@ -101,7 +101,8 @@ impl ServerMachine {
         Ok(true)
     }
 
-    /// One step of a worker. Workers are numbered from 1. `Err` only where memory is short.
+    /// One step of a worker. Workers are numbered from 1. `Err` only where memory is short: then the packet that the
+    /// worker had in hand is lost.
     pub fn work(&mut self, alloc: Global, number: u8) -> Result<Worked, AllocError>
         requires { 1 ≤ number }
         ensures outcome { IfOk result (λ worked. (w : World) → WorksAs (record w { server = self.old }) number self.new worked
@@ -129,7 +130,8 @@ impl ServerMachine {
         let mut total = self.total();
         let step = on_task(alloc, &mut total, task, &mut entry)?;
         self.put_entry(call.activity, entry);
-        self.put_worker(place, step.worker, total);
+        self.put_total(total);
+        self.put_worker(place, step.worker);
         Ok(Stepped {
             number: call.number,
             did: step.did,
@@ -149,8 +151,7 @@ impl ServerMachine {
         };
         let call = packet.header().call;
         let step = self.claim(alloc, packet)?;
-        let total = self.total();
-        self.put_worker(place, step.worker, total);
+        self.put_worker(place, step.worker);
         Ok(Worked::Step(Stepped {
             number: call.number,
             did: step.did,
@@ -180,6 +181,12 @@ impl ServerMachine {
         self.total
     }
 
+    fn put_total(&mut self, total: u32)
+        ensures { self.new ≡ record self.old { total = total } }
+    {
+        self.total = total;
+    }
+
     /// Takes a worker's task out, and leaves it idle.
     fn take_task(&mut self, place: usize) -> Option<Task>
         requires { place < length self.old.workers }
@@ -189,13 +196,11 @@ impl ServerMachine {
         self.workers[place].take()
     }
 
-    /// A worker has done a step, after which the test service has this total.
-    fn put_worker(&mut self, place: usize, worker: Worker, total: u32)
+    fn put_worker(&mut self, place: usize, worker: Worker)
         requires { place < length self.old.workers }
-        ensures { self.new ≡ record self.old { workers = slice_set self.old.workers place worker; total = total } }
+        ensures { self.new ≡ record self.old { workers = slice_set self.old.workers place worker } }
     {
         self.workers[place] = worker;
-        self.total = total;
     }
 
     /// Takes the oldest ready packet.

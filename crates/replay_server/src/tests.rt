@@ -15,7 +15,7 @@ use call_rules::{Did, Unfit};
 use ff_io::Station;
 use fragments::LONG;
 use replay_packets::{Outgoing, Packet, SERVER, arrive};
-use rpc_header::{Activity, CallId, Export, Header, Kind, fits, number};
+use rpc_header::{Activity, CallId, Export, Header, Kind, fits};
 use std::alloc::Global;
 use std::test::Fail;
 
@@ -87,8 +87,31 @@ fn ask(
     Ok(told(&server.work(alloc, 1)?))
 }
 
+/// The same, of each kind of packet that is about a call, where each is refused for this reason.
+fn all_are_refused(
+    alloc: Global,
+    export: Export,
+    procedure: u16,
+    reason: u8,
+) -> Result<bool, Fail> {
+    let reject = ServerPacket {
+        kind: Kind::Reject,
+        reason,
+        export,
+        ..ACKED
+    };
+    for packet in &[CALL, ACK, PROBE] {
+        let step = ask(alloc, *packet, export, procedure)?;
+        if step != Some((Did::Rejects(reason), Added::Rejection(reject))) {
+            return Ok(false);
+        }
+    }
+    Ok(true)
+}
+
 #[test]
 fn calls_that_the_exports_refuse(rt: HostRuntime) -> Result<(), Fail> {
+    let alloc = rt.alloc();
     let later = Export {
         identifier: 2,
         index: 0,
@@ -97,58 +120,46 @@ fn calls_that_the_exports_refuse(rt: HostRuntime) -> Result<(), Fail> {
         identifier: 1,
         index: 1,
     };
-    for piece in [CALL, ACK, PROBE] {
-        for export in [later, elsewhere, NO_EXPORT] {
-            let reject = ServerPacket {
-                reason: 1,
-                export,
-                kind: Kind::Reject,
-                ..ACKED
-            };
-            let step = ask(rt.alloc(), piece, export, 0)?;
-            assert_eq!(rt; step, Some((Did::Rejects(1), Added::Rejection(reject))));
-        }
-        let reject = ServerPacket {
-            reason: 2,
-            kind: Kind::Reject,
-            ..ACKED
-        };
-        let step = ask(rt.alloc(), piece, SERVICE, 5)?;
-        assert_eq!(rt; step, Some((Did::Rejects(2), Added::Rejection(reject))));
-    }
-    let step = ask(rt.alloc(), CALL, SERVICE, 4)?;
+    assert!(rt; all_are_refused(alloc, later, 0, 1)?);
+    assert!(rt; all_are_refused(alloc, elsewhere, 0, 1)?);
+    assert!(rt; all_are_refused(alloc, NO_EXPORT, 0, 1)?);
+    assert!(rt; all_are_refused(alloc, SERVICE, 5, 2)?);
+    let step = ask(alloc, CALL, SERVICE, 4)?;
     assert_eq!(rt; step, Some((Did::Claims, Added::Nothing)));
     Ok(())
+}
+
+/// A call of a process of a machine comes from there, and worker 1 does a step.
+fn call_from(alloc: Global, from: Station, process: u16) -> Result<Option<(Did, Added)>, Fail> {
+    let mut server = booted(alloc)?;
+    let header = header_of(CALL)?;
+    let activity = Activity {
+        machine: u32::from(from.machine),
+        process,
+    };
+    let call = CallId {
+        activity,
+        ..header.call
+    };
+    if !take(alloc, &mut server, from, Header { call, ..header }, &[])? {
+        return Err("room".into());
+    }
+    Ok(told(&server.work(alloc, 1)?))
 }
 
 #[test]
 fn activities_without_an_entry(rt: HostRuntime) -> Result<(), Fail> {
     let alloc = rt.alloc();
-    let last = Some((Did::Claims, Added::Nothing));
+    let claims = Some((Did::Claims, Added::Nothing));
     let full = Some((Did::Drops(Unfit::Full), Added::Nothing));
-    for (machine, process, step) in [
-        (2, 8, last),
-        (9, 1, last),
-        (9, 8, last),
-        (2, 0, full),
-        (2, 9, full),
-        (10, 1, full),
-        (1, 1, full),
-    ] {
-        let mut server = booted(alloc)?;
-        let number = number(65536).ok_or("a call number")?;
-        let activity = Activity {
-            machine: u32::from(machine),
-            process,
-        };
-        let header = Header {
-            call: CallId { activity, number },
-            ..header_of(CALL)?
-        };
-        let from = Station { machine };
-        assert!(rt; take(alloc, &mut server, from, header, &[])?);
-        assert_eq!(rt; told(&server.work(alloc, 1)?), step, "{machine}.{process}");
-    }
+    let last = Station { machine: 9 };
+    let behind = Station { machine: 10 };
+    assert_eq!(rt; call_from(alloc, CLIENT, 8)?, claims);
+    assert_eq!(rt; call_from(alloc, last, 8)?, claims);
+    assert_eq!(rt; call_from(alloc, CLIENT, 0)?, full);
+    assert_eq!(rt; call_from(alloc, CLIENT, 9)?, full);
+    assert_eq!(rt; call_from(alloc, behind, 1)?, full);
+    assert_eq!(rt; call_from(alloc, SERVER, 1)?, full);
     Ok(())
 }
 
@@ -229,40 +240,27 @@ fn a_kept_reply_is_sent_piece_by_piece(rt: HostRuntime) -> Result<(), Fail> {
     Ok(())
 }
 
+/// What the service answers, whether it is a signal, and its total after it.
+fn served(
+    alloc: Global,
+    total: u32,
+    procedure: u16,
+    arguments: &[u8],
+) -> Result<(Vec<u8>, bool, u32), Fail> {
+    let served = serve(alloc, total, procedure, arguments)?;
+    Ok((served.answer.reply, served.answer.signal, served.total))
+}
+
 #[test]
-fn the_service_answers(rt: HostRuntime) -> Result<(), Fail> {
-    let add = [0, 0, 0, 2, 255, 255, 255, 253];
-    let overflow = [0, 0, 0, 3, 255, 255, 255, 253];
-    let bump = [0, 0, 1, 0];
-    for (procedure, arguments, total, signal, reply, after) in [
-        (0, [].as_slice(), 7, false, [].as_slice(), 7),
-        (0, [0].as_slice(), 7, true, [0, 0].as_slice(), 7),
-        (1, add.as_slice(), 7, false, [255; 4].as_slice(), 7),
-        (1, overflow.as_slice(), 7, true, [0, 1].as_slice(), 7),
-        (1, bump.as_slice(), 7, true, [0, 0].as_slice(), 7),
-        (2, bump.as_slice(), 7, false, [0, 0, 1, 7].as_slice(), 263),
-        (
-            2,
-            bump.as_slice(),
-            u32::MAX - 255,
-            true,
-            [0, 1].as_slice(),
-            u32::MAX - 255,
-        ),
-        (
-            2,
-            bump.as_slice(),
-            u32::MAX - 256,
-            false,
-            [255; 4].as_slice(),
-            u32::MAX,
-        ),
-        (2, add.as_slice(), 7, true, [0, 0].as_slice(), 7),
-        (5, [].as_slice(), 7, true, [0, 0].as_slice(), 7),
-    ] {
-        let served = serve(rt.alloc(), total, procedure, arguments)?;
-        assert_eq!(rt; served.answer.reply.as_slice(), reply, "{procedure}");
-        assert_eq!(rt; (served.answer.signal, served.total), (signal, after));
-    }
+fn the_service_adds_up(rt: HostRuntime) -> Result<(), Fail> {
+    let (reply, signal, total) = served(rt.alloc(), 7, 2, &[0, 0, 1, 0])?;
+    assert_eq!(rt; reply.as_slice(), [0, 0, 1, 7].as_slice());
+    assert_eq!(rt; (signal, total), (false, 263));
+    let (reply, signal, total) = served(rt.alloc(), 0xffff_ff00, 2, &[0, 0, 1, 0])?;
+    assert_eq!(rt; reply.as_slice(), [0, 1].as_slice());
+    assert_eq!(rt; (signal, total), (true, 0xffff_ff00));
+    let (reply, signal, _) = served(rt.alloc(), 7, 1, &[0, 0, 0, 2, 255, 255, 255, 253])?;
+    assert_eq!(rt; reply.as_slice(), [255; 4].as_slice());
+    assert_eq!(rt; signal, false);
     Ok(())
 }

@@ -10,5 +10,5 @@ returns-in_default-clause-outcome c w =
 pub returns-clause-outcome : goal.returns-clause-outcome
 returns-clause-outcome c w =
     let h = c.in-Some.ensures in
-    claims w c.args.self.now c.next_ready.new.self c.put_worker.new.self c.args.place c.in-Some.packet h.0 _ c.in_ok-step.step c.header.result.now.call.number
-    (ap (λ (x : Fields). x.call.number) c.header.ensures.fields) h.1 h.2 c.in_ok-step.ensures c.total-total.ensures c.put_worker.ensures
+    claims w c.args.self.now c.next_ready.new.self c.put_worker.new.self c.args.place c.in-Some.packet h.0 c.in_ok-step.step c.header.result.now.call.number
+    (ap (λ (x : Fields). x.call.number) c.header.ensures.fields) h.1 h.2 c.in_ok-step.ensures c.put_worker.ensures
