@@ -1,7 +1,7 @@
 -- What a client does about a start, a packet and a tick, by the process that does it.
-use Rattle.std.proofs.Common.{◌≡◌, ℕ, ◌+◌, ◌≤◌, ◌<◌, List, [], ◌∷◌, Option, Some, None, true, false, ap, sym, subst, ◌∙◌, refl}
+use Rattle.std.proofs.Common.{◌≡◌, ℕ, ◌+◌, ◌≤◌, ◌<◌, List, Option, Some, None, true, false, ap, sym, subst, ◌∙◌, refl}
 use Rattle.std.proofs.lemmas.Bool.{cond-true, cond-false, le-leb, lt-leb}
-use Rattle.call_rules.specs.Packet.{Packet, Call, call_of}
+use Rattle.call_rules.specs.Packet.{Packet}
 use Rattle.call_rules.specs.Caller.{is_idle, current_call}
 use Rattle.replay_model.specs.declared.event.CallWord.{CallWord}
 use Rattle.replay_model.specs.declared.discard.Discard.TheVariants as why

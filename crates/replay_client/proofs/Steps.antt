@@ -1,14 +1,13 @@
 -- The steps of a process as the model's, by what its caller has done.
 use Rattle.std.proofs.Common.{◌≡◌, ℕ, ◌+◌, List, [], ◌∷◌, length, Some, Bool, true, false, ap, sym, ◌∙◌, refl}
-use Rattle.std.specs.Prelude.{◌==◌, Result, IfOk, not, nat_eq}
-use Rattle.std.specs.declared.alloc.AllocError.{AllocError}
+use Rattle.std.specs.Prelude.{Result, IfOk, not, nat_eq}
 use Rattle.std.proofs.lemmas.Bool.{cond-true, cond-false, eq-eqb}
 use Rattle.call_rules.specs.Packet.{Call, Packet, call_of}
 use Rattle.call_rules.specs.Caller.{Caller, Act, Step, is_idle, is_unused, current_call, on_packet, on_start_call, on_tick}
 use Rattle.replay_model.specs.Process.{Line, LineStep, on_act, acts, started, heard, ticked}
 use Rattle.replay_model.specs.Record.{Hears}
 use Rattle.replay_model.specs.World.{World, Client}
-use Rattle.replay_model.specs.Step.{Outcome, does, tells, hears, line_takes, discarded, with_client, with_line}
+use Rattle.replay_model.specs.Step.{does, tells, hears, line_takes, discarded, with_client, with_line}
 use Rattle.replay_model.specs.declared.discard.Discard.TheVariants as why
 use Rattle.caller_core.specs.declared.action.Action.{Action}
 use Rattle.caller_core.specs.declared.action.Action.TheVariants as action

@@ -1,5 +1,5 @@
 use Rattle.std.proofs.Common.{◌∙◌, ap, sym, arith}
-use Rattle.call_rules.specs.Caller.{State, is_binding}
+use Rattle.call_rules.specs.Caller.{is_binding}
 use Rattle.replay_model.specs.Process.{Line}
 use Rattle.replay_client.specs.contracts.line.ClientLine.{the_view}
 use Rattle.replay_client.proofs.Steps.{call_steps}

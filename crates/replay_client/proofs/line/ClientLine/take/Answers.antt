@@ -1,5 +1,4 @@
-use Rattle.std.proofs.Common.{◌≡◌, false, ◌∙◌, ap, sym}
-use Rattle.std.specs.Prelude.{not, nat_eq}
+use Rattle.std.proofs.Common.{◌≡◌, ◌∙◌, ap, sym}
 use Rattle.std.proofs.lemmas.Bool.{eqb-true}
 use Rattle.caller_core.specs.Action.{act_of}
 use Rattle.call_rules.specs.Packet.{fields_of}

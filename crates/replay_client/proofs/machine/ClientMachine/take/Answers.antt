@@ -1,11 +1,10 @@
-use Rattle.std.proofs.Common.{◌≡◌, ℕ, Some, ◌+◌, ◌-◌, ◌≤◌, length, get_or, set, ap, sym, ◌∙◌, arith}
+use Rattle.std.proofs.Common.{◌≡◌, ℕ, Some, ◌+◌, ◌-◌, ◌≤◌, length, get_or, set, ap, ◌∙◌, arith}
 use Rattle.std.proofs.lemmas.Result.{IfOk-weaker}
 use Rattle.call_rules.specs.Packet.{Packet}
 use Rattle.replay_packets.specs.Packet.{packet_of}
 use Rattle.replay_model.specs.World.{World, Client}
 use Rattle.replay_model.specs.Step.{client_takes, line_takes, with_line}
 use Rattle.replay_client.specs.contracts.machine.ClientMachine.{the_view}
-use Rattle.replay_client.specs.declared.line.Took.{Took}
 use Rattle.replay_client.specs.Client.{TookAs}
 use Rattle.replay_client.proofs.Numbered.{numbered-none, numbered-some}
 use Rattle.replay_client.proofs.Outcomes.{client_takes-none, taken}
