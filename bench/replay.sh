@@ -6,7 +6,8 @@
 # shortest script and left out. It is run by hand and is no part of the gate: a busy machine's times are worth
 # little.
 # Where valgrind is found, the instructions of a line are counted first: for scripts of null calls of 7 lines each, by
-# the difference of two lengths, so that they don't depend on how busy the machine is.
+# the difference of two lengths, so that they don't depend on how busy the machine is. Then those of a script of losses
+# and repeats, in its first and in its second half: a line costs as much behind many lines as behind few.
 set -eu
 cd "$(dirname "$0")/.."
 runs=${1:-200}
@@ -54,19 +55,46 @@ calls() {
         }'
 }
 
-# instructions CALLS: of the program on that many null calls.
+# losses CALLS: the same calls, whose packets are lost and come again. Of each call the packet comes twice, the second
+# fetches the reply, which is lost; the call is sent again, fetches the reply once more, and returns; then the lost
+# results come late. 18 lines and 5 packets a call.
+losses() {
+    awk -v calls="$1" '
+        BEGIN {
+            for (made = 0; made < calls; made++) {
+                first = 5 * made + 1
+                print "call 2 1 null"
+                print "deliver", first
+                print "deliver", first
+                for (step = 0; step < 7; step++) print "work 1"
+                print "tick 2 1 4"
+                print "deliver", first + 3
+                for (step = 0; step < 3; step++) print "work 1"
+                print "deliver", first + 4
+                print "deliver", first + 1
+                print "deliver", first + 2
+            }
+            print "end"
+        }'
+}
+
+# instructions SCRIPT CALLS: of the program on that many calls of a script.
 instructions() {
-    calls "$1" > "$work/calls"
+    "$1" "$2" > "$work/calls"
     valgrind --tool=callgrind --callgrind-out-file=/dev/null crates/ffrpc/out/ffrpc replay < "$work/calls" 2>&1 > "$work/calls.out" |
         awk '$2 == "Collected" { print $4 }'
-    wanted="end runs $1 returned $1 signalled 0 failed 0 refused 0"
-    [ "$(tail -n 1 "$work/calls.out")" = "$wanted" ] || { echo "$1 calls: not all returned" >&2; exit 1; }
+    wanted="end runs $2 returned $2 signalled 0 failed 0 refused 0"
+    [ "$(tail -n 1 "$work/calls.out")" = "$wanted" ] || { echo "$2 calls: not all returned" >&2; exit 1; }
 }
 
 if command -v valgrind > "$work/valgrind"; then
-    few=$(instructions 1000)
-    many=$(instructions 2800)
+    few=$(instructions calls 1000)
+    many=$(instructions calls 2800)
     echo "$(((many - few) / (7 * 1800))) instructions a line"
+    few=$(instructions losses 250)
+    half=$(instructions losses 650)
+    many=$(instructions losses 1050)
+    echo "with losses and repeats $(((half - few) / (18 * 400))) instructions a line, and $(((many - half) / (18 * 400))) behind 11,700 lines"
 else
     echo "valgrind isn't found: instructions aren't counted"
 fi
