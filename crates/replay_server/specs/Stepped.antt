@@ -1,6 +1,5 @@
 -- What a worker's step stands for: a row's step, and an outcome of the model.
-use Rattle.std.specs.Prelude.{◌≡◌, ℕ, [], ◌∷◌, None, unwrap_or}
-use Rattle.call_rules.specs.Entry.{Entry}
+use Rattle.std.specs.Prelude.{◌≡◌, ℕ, [], ◌∷◌}
 use Rattle.call_rules.specs.Worker.{Run}
 use Rattle.call_rules.specs.Worker as rules
 use Rattle.replay_model.specs.Digests.{run_digest}

@@ -1,9 +1,8 @@
 //! What no row has: binds, refused calls, entries that aren't there, the list of ready packets, long replies in
 //! pieces, and the test service.
 
-use crate::Worked;
 use crate::entry::{Entry, EntryState};
-use crate::service::serve;
+use crate::service::{Served, serve};
 use crate::task_rules::on_task;
 use crate::texts::Answer;
 use crate::trial::{
@@ -11,6 +10,7 @@ use crate::trial::{
     booted, header_of, take, told,
 };
 use crate::worker::{Stage, Task};
+use crate::{ServerMachine, Worked};
 use call_rules::{Did, Unfit};
 use ff_io::Station;
 use fragments::LONG;
@@ -163,19 +163,36 @@ fn activities_without_an_entry(rt: HostRuntime) -> Result<(), Fail> {
     Ok(())
 }
 
+/// How many calls are taken until there is no room, of at most 100.
+fn calls_taken(alloc: Global, server: &mut ServerMachine) -> Result<usize, Fail> {
+    let header = header_of(CALL)?;
+    for i in 0..100 {
+        if !take(alloc, server, CLIENT, header, &[])? {
+            return Ok(i);
+        }
+    }
+    Ok(100)
+}
+
 #[test]
 fn at_most_64_packets_are_ready(rt: HostRuntime) -> Result<(), Fail> {
     let alloc = rt.alloc();
     let mut server = booted(alloc)?;
-    assert!(rt; matches!(server.work(alloc, 4)?, Worked::Idle));
-    assert!(rt; matches!(server.work(alloc, 5)?, Worked::Impossible));
-    let header = header_of(CALL)?;
-    for _packet in 0..64 {
-        assert!(rt; take(alloc, &mut server, CLIENT, header, &[])?);
-    }
-    assert!(rt; !take(alloc, &mut server, CLIENT, header, &[])?);
-    assert!(rt; matches!(server.work(alloc, 4)?, Worked::Step(_)));
-    assert!(rt; take(alloc, &mut server, CLIENT, header, &[])?);
+    assert_eq!(rt; calls_taken(alloc, &mut server)?, 64);
+    let step = told(&server.work(alloc, 4)?);
+    assert_eq!(rt; step, Some((Did::Claims, Added::Nothing)));
+    assert_eq!(rt; calls_taken(alloc, &mut server)?, 1);
+    Ok(())
+}
+
+#[test]
+fn workers_without_a_packet(rt: HostRuntime) -> Result<(), Fail> {
+    let alloc = rt.alloc();
+    let mut server = booted(alloc)?;
+    let idle = server.work(alloc, 4)?;
+    assert!(rt; matches!(&idle, Worked::Idle));
+    let impossible = server.work(alloc, 5)?;
+    assert!(rt; matches!(&impossible, Worked::Impossible));
     Ok(())
 }
 
@@ -247,8 +264,9 @@ fn served(
     procedure: u16,
     arguments: &[u8],
 ) -> Result<(Vec<u8>, bool, u32), Fail> {
-    let served = serve(alloc, total, procedure, arguments)?;
-    Ok((served.answer.reply, served.answer.signal, served.total))
+    let Served { answer, total } = serve(alloc, total, procedure, arguments)?;
+    let Answer { signal, reply } = answer;
+    Ok((reply, signal, total))
 }
 
 #[test]
