@@ -1,5 +1,5 @@
 -- What a law has to allow and to keep for a pool.
-use Rattle.std.specs.Prelude.{◌≡◌, ◌≢◌, ℕ, ◌<◌, nat_lt, if◌then◌else◌, Bool, true, false, List, ◌∷◌, Option, Some, None}
+use Rattle.std.specs.Prelude.{◌≡◌, ◌≢◌, ℕ, ◌<◌, nat_lt, if◌then◌else◌, Bool, true, false, ◌||◌, List, [], ◌∷◌, ◌++◌, Option, Some, None}
 use mathlib.Core.Option.{some}
 use lib.ListN.{get_elem?}
 use Rattle.packet_board.specs.declared.word.Word.{Word}
@@ -7,7 +7,7 @@ use Rattle.packet_board.specs.declared.layout.Layout.{Layout}
 use Rattle.packet_board.specs.declared.buffer.Buffer.{Buffer}
 use Rattle.packet_board.specs.declared.view.Met.{Met}
 use Rattle.packet_board.specs.declared.view.View.{View}
-use Rattle.packet_board.specs.Words.{buffers_of, empty, full}
+use Rattle.packet_board.specs.Words.{buffers_of, cell_count, first_word, empty, full}
 use Rattle.packet_board.specs.Laws.{Law, Allowing}
 use Rattle.packet_pool.specs.declared.item.Item.{Item}
 use Rattle.packet_pool.specs.Cells.{IsReadyCell, ready_word, item, IsFreeWord, IsReadyWord, IsNext, newest}
@@ -38,6 +38,21 @@ module _ {N : Type 0} where
     pub claim_taken : (x : Item) (notes : N) → taken (with_claimed x notes) ≡ taken notes
     pub claim_posted : (x : Item) (notes : N) → posted (with_claimed x notes) ≡ posted notes
     pub claim_claimed : (x : Item) (notes : N) → claimed (with_claimed x notes) ≡ x ∷ claimed notes
+
+  -- the notes of the first seat, which has the right to post, of one that was split off, and of two that were joined
+  pub record Seats (right : N → Bool) (taken : N → List ℕ) (posted claimed : N → List Item) (first : Layout → N) (blank : N) (both : N → N → N) : Type 0 where
+    pub first_right : (k : Layout) → right (first k) ≡ true
+    pub first_taken : (k : Layout) → taken (first k) ≡ []
+    pub first_posted : (k : Layout) → posted (first k) ≡ []
+    pub first_claimed : (k : Layout) → claimed (first k) ≡ []
+    pub blank_right : right blank ≡ false
+    pub blank_taken : taken blank ≡ []
+    pub blank_posted : posted blank ≡ []
+    pub blank_claimed : claimed blank ≡ []
+    pub both_right : (a b : N) → right (both a b) ≡ (right a || right b)
+    pub both_taken : (a b : N) → taken (both a b) ≡ taken a ++ taken b
+    pub both_posted : (a b : N) → posted (both a b) ≡ posted a ++ posted b
+    pub both_claimed : (a b : N) → claimed (both a b) ≡ claimed a ++ claimed b
 
   -- a free cell may lose its buffer
   abbrev pub Takes : Allowing N → (ℕ → N → N) → Type 0
@@ -75,3 +90,8 @@ module _ {N : Type 0} where
   abbrev pub Fresh : Law N → Type 0
   Fresh holds = (k : Layout) (ws : List Word) (bs : List (Option Buffer)) (vs : List (View N)) (id : ℕ) (v : View N) (cell : ℕ) (m : Met)
       → holds k ws bs vs → get_elem? vs id ≡ some v → v.live ≡ true → IsOnly id vs → newest cell v.met ≡ some m → get_elem? ws cell ≡ some m.word
+
+  -- a seat that has the right to post and made no step is the only one, and every word is that of a new board
+  abbrev pub Untouched : Law N → (N → Bool) → Type 0
+  Untouched holds right = (k : Layout) (ws : List Word) (bs : List (Option Buffer)) (vs : List (View N)) (id : ℕ) (v : View N)
+      → holds k ws bs vs → get_elem? vs id ≡ some v → right v.notes ≡ true → v.steps ≡ 0 → IsOnly id vs × ((cell : ℕ) → cell < cell_count k → get_elem? ws cell ≡ some (first_word k cell))

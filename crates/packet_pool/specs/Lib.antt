@@ -5,3 +5,5 @@ pub mod PlainParts
 pub mod PlainSteps
 pub mod PlainExchanges
 pub mod PlainPool
+pub mod Buffers
+pub mod Packets

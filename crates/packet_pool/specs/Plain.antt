@@ -8,7 +8,7 @@ use Rattle.packet_board.specs.declared.layout.Layout.{Layout}
 use Rattle.packet_board.specs.declared.buffer.Buffer.{Buffer}
 use Rattle.packet_board.specs.declared.view.Met.{Met}
 use Rattle.packet_board.specs.declared.view.View.{View}
-use Rattle.packet_board.specs.Words.{weigh, buffers_of, empty, full}
+use Rattle.packet_board.specs.Words.{weigh, buffers_of, cell_count, first_word, empty, full}
 use Rattle.packet_pool.specs.declared.item.Item.{Item}
 use Rattle.packet_pool.specs.declared.plain.PlainNotes.{PlainNotes}
 use Rattle.packet_pool.specs.Cells.{ready_count, ready_cell, IsReadyCell, ready_word, item, Rises, IsNext, newest}
@@ -95,12 +95,17 @@ claimed_by f v = weigh f v.notes.claimed
 abbrev pub PlainFresh : List Word → Views → Type 0
 PlainFresh ws vs = (id : ℕ) (v : PlainView) (cell : ℕ) (m : Met) → get_elem? vs id ≡ some v → v.live ≡ true → IsOnly id vs → newest cell v.met ≡ some m → get_elem? ws cell ≡ some m.word
 
+-- a view that has the right and made no step is the only one, and every word is that of a new board
+abbrev pub PlainUntouched : Layout → List Word → Views → Type 0
+PlainUntouched k ws vs = (id : ℕ) (v : PlainView) → get_elem? vs id ≡ some v → v.notes.right ≡ true → v.steps ≡ 0 → IsOnly id vs × ((cell : ℕ) → cell < cell_count k → get_elem? ws cell ≡ some (first_word k cell))
+
 pub record PlainHolds (k : Layout) (ws : List Word) (bs : List (Option Buffer)) (vs : Views) : Type 0 where
   pub posting : Posting vs
   pub cells : PoolCells every_packet k ws bs
   -- each posted item waits in its ready cell or was claimed, in all as often as it was posted
   pub counted : (f : Item → ℕ) → weigh (posted_by f) vs ≡ waiting f k ws bs + weigh (claimed_by f) vs
   pub fresh : PlainFresh ws vs
+  pub untouched : PlainUntouched k ws vs
 
 -- the four kinds of exchange
 pub data Kind : Type 0 where

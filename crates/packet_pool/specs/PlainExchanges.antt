@@ -21,7 +21,7 @@ use Rattle.packet_pool.specs.declared.item.Item.{Item}
 use Rattle.packet_pool.specs.declared.plain.PlainNotes.{PlainNotes}
 use Rattle.packet_pool.specs.Cells.{ready_count, ready_cell, IsReadyCell, item, IsFreeWord, IsReadyWord, Rises}
 use Rattle.packet_pool.specs.Plain.{PlainView, Views, plain_with_taken, posted_by, claimed_by, waiting, weight_at, PlainHolds, Kind, taking, giving, posting, claiming, IsTaking, IsGiving, IsPosting, IsClaiming, IsKind, plain_allows}
-use Rattle.packet_pool.specs.PlainParts.{posting_set, same_up_to, one_up_to, weight_empty, weight_full, weight_kept, fresh_word}
+use Rattle.packet_pool.specs.PlainParts.{posting_set, same_up_to, one_up_to, weight_empty, weight_full, weight_kept, fresh_word, touched}
 
 -- a cell beside the one that is exchanged names neither the number that is given nor the one that is taken
 module _ (k : Layout) (ws : List Word) (out : ℕ) (hs : Homes) (vs : Views) (id : ℕ) (v : PlainView) (cell : ℕ) (old new : Word) (given found : Option Buffer) (meets : Meets PlainHolds k ws out hs vs id v cell old new found) where
@@ -75,6 +75,7 @@ module _ (k : Layout) (ws : List Word) (out : ℕ) (hs : Homes) (vs : Views) (id
         let p' : weigh (posted_by f) (slice_set vs id w) + weigh f v.notes.posted ≡ weigh (posted_by f) vs + weigh f notes.posted = p in
         let c' : weigh (claimed_by f) (slice_set vs id w) + weigh f v.notes.claimed ≡ weigh (claimed_by f) vs + weigh f notes.claimed = c in omega (arith, p', c', l, e);
     fresh = fresh_word ws vs law.fresh id cell (v.steps + 1) new old v w at meets.at_cell meets.seen.live meets.seen.live refl;
+    untouched = touched k ws (slice_set ws cell new) vs law.untouched id v w at meets.seen.live (omega arith);
   }
 
 -- a taking keeps all but what is taken

@@ -1,5 +1,5 @@
 -- What each part of the plain law makes of one view, or one word, that changes.
-use Rattle.std.specs.Prelude.{◌≡◌, ◌≢◌, ℕ, zero, suc, ◌+◌, ◌<◌, ◌⊎◌, if◌then◌else◌, Bool, true, false, ◌||◌, List, [], ◌∷◌, ◌++◌, length, slice_set, Option, Some, None, refl}
+use Rattle.std.specs.Prelude.{◌≡◌, ◌≢◌, ℕ, zero, suc, ◌+◌, ◌<◌, ◌≤◌, ◌⊎◌, if◌then◌else◌, Bool, true, false, ◌||◌, List, [], ◌∷◌, ◌++◌, length, slice_set, Option, Some, None, refl}
 use Rattle.std.proofs.Common.{sym, ap, ◌∙◌, subst, inl, inr, ⊎_elim, true≢false, arith, eq-eqb, ne_eqb}
 use Rattle.std.proofs.lemmas.List.{append-nil}
 use mathlib.Core.Option.{none, some, some-injective, some-ne-none}
@@ -9,6 +9,7 @@ use native.Mathlib.Decide.{ℕ_discrete}
 use lib.ListN.{get_elem?}
 use Rattle.atomic_table.proofs.Lists.{at_set, at_snoc, at_longer, set_here, set_else}
 use Rattle.packet_board.specs.declared.word.Word.{Word}
+use Rattle.packet_board.specs.declared.layout.Layout.{Layout}
 use Rattle.packet_board.specs.declared.buffer.Buffer.{Buffer}
 use Rattle.packet_board.specs.declared.view.Met.{Met}
 use Rattle.packet_board.specs.Words.{weigh, empty}
@@ -16,7 +17,7 @@ use Rattle.packet_board.specs.Views.{meeting}
 use Rattle.packet_board.proofs.Counts.{weigh_set, below}
 use Rattle.packet_pool.specs.declared.item.Item.{Item}
 use Rattle.packet_pool.specs.Cells.{ready_word, item, Rises, newest}
-use Rattle.packet_pool.specs.Plain.{PlainView, Views, IsPlain, Posting, weight_found, weight_named, weight_in, weight_at, up_to, PlainFresh}
+use Rattle.packet_pool.specs.Plain.{PlainView, Views, IsPlain, Posting, weight_found, weight_named, weight_in, weight_at, up_to, PlainFresh, PlainUntouched}
 
 -- The right to post
 
@@ -156,4 +157,25 @@ fresh_spent ws vs other s id v at live nothing ne dead j u cell m there out only
     (λ q. dite (ℕ_discrete j id)
     (λ e. let same : u ≡ v = some-injective u v (sym q.1 ∙ (ap (get_elem? vs) e ∙ at)) in absurd (some-ne-none m (sym (subst (λ (z : List Met). newest cell z ≡ some m) nothing (subst (λ (z : PlainView). newest cell z.met ≡ some m) same is)))))
     (λ apart. absurd (true≢false (sym live ∙ only id v (λ h. apart (sym h)) (set_else vs other id s (λ h. ne (sym h)) ∙ at)))))
+    (at_set vs other j s u there)
+
+-- What a seat that made a step knows of one that has the right and made none: there is none
+
+-- whatever becomes of the words, where one live view makes a step
+pub touched : (k : Layout) (ws us : List Word) (vs : Views) → PlainUntouched k ws vs → (id : ℕ) (v w : PlainView) → get_elem? vs id ≡ some v → v.live ≡ true → 1 ≤ w.steps → PlainUntouched k us (slice_set vs id w)
+touched k ws us vs old id v w at live made j u there right none_made = ⊎_elim (λ q. let e : w.steps ≡ u.steps = ap (λ (z : PlainView). z.steps) q.1 in absurd (omega (arith, e, made, none_made)))
+    (λ q. absurd (true≢false (sym live ∙ (old j u q.1 right none_made).0 id v (λ h. q.0 (sym h)) at))) (at_set vs id j w u there)
+
+-- a further view without the right, and one that lost it
+pub touched_more : (k : Layout) (ws : List Word) (vs : Views) (id : ℕ) (v r : PlainView) → PlainUntouched k ws vs → get_elem? vs id ≡ some v → v.live ≡ true → 1 ≤ v.steps → r.notes.right ≡ false → PlainUntouched k ws (vs ++ r ∷ [])
+touched_more k ws vs id v r old at live made plain j u there right none_made = ⊎_elim
+    (λ q. dite (ℕ_discrete j id) (λ e. let same : u ≡ v = some-injective u v (sym q ∙ (ap (get_elem? vs) e ∙ at)) in let s : u.steps ≡ v.steps = ap (λ (z : PlainView). z.steps) same in absurd (omega (arith, s, made, none_made)))
+    (λ ne. absurd (true≢false (sym live ∙ (old j u q right none_made).0 id v (λ h. ne (sym h)) at))))
+    (λ q. absurd (true≢false (sym right ∙ (ap (λ (z : PlainView). z.notes.right) (sym q) ∙ plain)))) (at_snoc vs r u j there)
+
+pub touched_spent : (k : Layout) (ws : List Word) (vs : Views) (id other : ℕ) (v s : PlainView) → PlainUntouched k ws vs → get_elem? vs id ≡ some v → v.live ≡ true → 1 ≤ v.steps → s.notes.right ≡ false → PlainUntouched k ws (slice_set vs other s)
+touched_spent k ws vs id other v s old at live made plain j u there right none_made = ⊎_elim
+    (λ q. absurd (true≢false (sym right ∙ (ap (λ (z : PlainView). z.notes.right) (sym q.1) ∙ plain))))
+    (λ q. dite (ℕ_discrete j id) (λ e. let same : u ≡ v = some-injective u v (sym q.1 ∙ (ap (get_elem? vs) e ∙ at)) in let m : u.steps ≡ v.steps = ap (λ (z : PlainView). z.steps) same in absurd (omega (arith, m, made, none_made)))
+    (λ ne. absurd (true≢false (sym live ∙ (old j u q.1 right none_made).0 id v (λ h. ne (sym h)) at))))
     (at_set vs other j s u there)

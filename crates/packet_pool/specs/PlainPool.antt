@@ -2,8 +2,8 @@
 use Rattle.std.specs.Prelude.{ℕ, Bool, List, refl}
 use Rattle.packet_pool.specs.declared.item.Item.{Item}
 use Rattle.packet_pool.specs.declared.plain.PlainNotes.{PlainNotes}
-use Rattle.packet_pool.specs.Laws.{Notes, Takes, Gives, Posts, Claims, Cells, Fresh}
-use Rattle.packet_pool.specs.Plain.{plain_with_taken, plain_with_posted, plain_with_claimed, every_packet, always_loose, PlainHolds, plain_allows, taking, giving, posting, claiming}
+use Rattle.packet_pool.specs.Laws.{Notes, Seats, Untouched, Takes, Gives, Posts, Claims, Cells, Fresh}
+use Rattle.packet_pool.specs.Plain.{first_notes, blank_notes, plain_both, plain_with_taken, plain_with_posted, plain_with_claimed, every_packet, always_loose, PlainHolds, plain_allows, taking, giving, posting, claiming}
 
 abbrev pub right_of : PlainNotes → Bool
 right_of notes = notes.right
@@ -50,3 +50,22 @@ plain_cells k ws bs vs law = law.cells
 
 pub plain_fresh : Fresh PlainHolds
 plain_fresh k ws bs vs id v cell m law at live only is = law.fresh id v cell m at live only is
+
+pub plain_seats : Seats right_of taken_of posted_of claimed_of (λ k. first_notes) blank_notes plain_both
+plain_seats = record {
+  first_right = λ k. refl;
+  first_taken = λ k. refl;
+  first_posted = λ k. refl;
+  first_claimed = λ k. refl;
+  blank_right = refl;
+  blank_taken = refl;
+  blank_posted = refl;
+  blank_claimed = refl;
+  both_right = λ a b. refl;
+  both_taken = λ a b. refl;
+  both_posted = λ a b. refl;
+  both_claimed = λ a b. refl;
+}
+
+pub plain_untouched : Untouched PlainHolds right_of
+plain_untouched k ws bs vs id v law at right none_made = law.untouched id v at right none_made

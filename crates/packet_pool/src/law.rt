@@ -2,7 +2,7 @@
 ghost use Rattle.std.specs.Prelude.{ℕ, Bool, List};
 ghost use Rattle.packet_board.specs.declared.buffer.Buffer.{Buffer};
 ghost use Rattle.packet_pool.specs.declared.item.Item.{Item};
-ghost use Rattle.packet_pool.specs.Laws.{Notes, Takes, Gives, Posts, Claims, Cells, Fresh};
+ghost use Rattle.packet_pool.specs.Laws.{Notes, Seats, Takes, Gives, Posts, Claims, Cells, Fresh, Untouched};
 
 use packet_board::BoardLaw;
 
@@ -35,6 +35,8 @@ pub trait PoolLaw: BoardLaw {
 
     ghost notes: { Notes right taken posted claimed with_taken with_posted with_claimed };
 
+    ghost seats: { Seats right taken posted claimed Self.first Self.blank Self.both };
+
     ghost takes: { Takes Self.allows with_taken };
 
     ghost gives: { Gives Self.allows is_loose };
@@ -46,4 +48,6 @@ pub trait PoolLaw: BoardLaw {
     ghost cells: { Cells Self.holds may_post };
 
     ghost fresh: { Fresh Self.holds };
+
+    ghost untouched: { Untouched Self.holds right };
 }

@@ -4,8 +4,14 @@
 
 mod item;
 mod law;
+mod making;
+mod packet;
 mod plain;
+mod pool;
+mod taking;
 
 pub use item::Item;
 pub use law::PoolLaw;
+pub use packet::{Empty, LongPacket, NoPacket, Packet, Unread};
 pub use plain::{PlainLaw, PlainNotes};
+pub use pool::Pool;
