@@ -1,6 +1,6 @@
 -- Numbers in a seat's hands, and the words of free cells.
-use Rattle.std.proofs.Common.{◌≡◌, ◌≢◌, ℕ, ◌<◌, ◌≤◌, ⊎_elim, Option, Some, ap, ◌∙◌, arith, List}
-use mathlib.Core.Option.{some, none}
+use Rattle.std.proofs.Common.{◌≡◌, ◌≢◌, ℕ, ◌<◌, ◌≤◌, ⊎_elim, Option, Some, refl, sym, ap, ◌∙◌, arith, List}
+use mathlib.Core.Option.{some, none, some-injective}
 use mathlib.Core.Option as maybe
 use lib.ListN.{get_elem?}
 use Rattle.packet_board.specs.declared.word.Word.{Word}
@@ -11,20 +11,30 @@ use Rattle.packet_board.specs.Words.{buffers_of, times, names, in_words, empty, 
 use Rattle.packet_board.specs.Hands.{Held, updated, IsStowed, lookup}
 use Rattle.packet_board.specs.Laws.{Law, Seen, Homes}
 use Rattle.packet_board.specs.Rule.{Ready}
-use Rattle.packet_board.proofs.Counts.{weigh_at, names_self}
+use Rattle.packet_board.proofs.Counts.{weigh_at, names_self, chosen}
 use Rattle.packet_board.proofs.Slots.{counted_key}
-use Rattle.packet_board.proofs.Brings.{in_no_word}
+use Rattle.packet_board.proofs.Brings.{in_no_word, one_buffer}
 use Rattle.packet_board.proofs.Held.{updated_here, updated_twice}
 use Rattle.packet_pool.specs.Laws.{Cells}
 
 pub stowed_in : (n : ℕ) (h i : Held) (y : Buffer) → i ≡ updated n (some (Some y)) h → IsStowed i n
 stowed_in n h i y e = (y, ap (λ (f : Held). f n) e ∙ updated_here n (some (Some y)) h)
 
+pub holds_content : (n : ℕ) (h i : Held) (y : Buffer) → i ≡ updated n (some (Some y)) h → i n ≡ some (Some y)
+holds_content n h i y e = ap (λ (f : Held). f n) e ∙ updated_here n (some (Some y)) h
+
 pub found_stowed : (n : ℕ) (h i : Held) (found : Option Buffer) (y : Buffer) → i ≡ updated n (some found) h → found ≡ Some y → IsStowed i n
 found_stowed n h i found y e is = stowed_in n h i y (e ∙ ap (λ (z : Option Buffer). updated n (some z) h) is)
 
 pub twice_updated : (n : ℕ) (a b : maybe.Option (Option Buffer)) (h i j : Held) → i ≡ updated n a h → j ≡ updated n b i → j ≡ updated n b h
 twice_updated n a b h i j e f = f ∙ (ap (λ (z : Held). updated n b z) e ∙ updated_twice n b a h)
+
+pub same_content : (n : ℕ) (h i : Held) (y x : Buffer) → i ≡ updated n (some (Some y)) h → i n ≡ some (Some x) → y ≡ x
+same_content n h i y x e is = one_buffer y x (some-injective (Some y) (Some x) (sym (ap (λ (f : Held). f n) e ∙ updated_here n (some (Some y)) h) ∙ is))
+
+-- the hands with what they have at a number
+pub updated_same : (n : ℕ) (z : maybe.Option (Option Buffer)) (h : Held) → h n ≡ z → updated n z h ≡ h
+updated_same n z h e = λ i m. chosen n m z (h m) (h m) (λ p. sym e ∙ ap h p) (λ _. refl) i
 
 module _ {N : Type 0} where
   -- a number that a seat holds is in its view's hands

@@ -1,5 +1,5 @@
 -- What a seat saw in a call: how it lasts, and what it says of the board where no other seat is out.
-use Rattle.std.proofs.Common.{◌≡◌, ◌≢◌, ℕ, true, suc, ◌+◌, ◌≤◌, eq-eqb, ne_eqb, if◌then◌else◌, List, ◌∷◌, refl, sym, ap, ◌∙◌, subst, arith}
+use Rattle.std.proofs.Common.{◌≡◌, ◌≢◌, ℕ, true, suc, ◌+◌, ◌<◌, ◌≤◌, eq-eqb, ne_eqb, if◌then◌else◌, List, ◌∷◌, refl, sym, ap, ◌∙◌, subst, arith}
 use mathlib.Core.Option.{some}
 use mathlib.Core.Logic.{dite}
 use native.Mathlib.Decide.{ℕ_discrete}
@@ -61,14 +61,18 @@ module _ {N : Type 0} where
   pub seen_as : (from : ℕ) (w : View N) (cell : ℕ) (P Q : Word → Type 0) → ((word : Word) → P word → Q word) → IsSeen from w cell P → IsSeen from w cell Q
   seen_as from w cell P Q f seen = (seen.0, seen.1, seen.2, seen.3, f seen.0.word seen.4)
 
+  -- one more cell was seen, in the last step
+  pub all_more : (P : Word → Type 0) (from : ℕ) (w u : View N) (first n : ℕ) (word : Word) → Stepped w u n word → ((cell : ℕ) → first ≤ cell → cell < n → IsSeen from w cell P) → from ≤ w.steps → P word
+      → (cell : ℕ) → first ≤ cell → cell < n + 1 → IsSeen from u cell P
+  all_more P from w u first n word s all late is cell low high = dite (ℕ_discrete n cell)
+      (λ e. subst (λ (z : ℕ). IsSeen from u z P) e (seen_here from w u n word P s late is)) (λ ne. seen_still from w u n cell word P s ne (all cell low (omega (arith, high, ne))))
+
   pub empty_none : (from : ℕ) (v : View N) (first : ℕ) → AllEmpty from v first first
   empty_none from v first cell low high = absurd (omega arith)
 
   -- one more cell was seen empty
   pub empty_more : (from : ℕ) (w : View N) (first n : ℕ) → AllEmpty from w first n → from ≤ w.steps → AllEmpty from (looked w n empty) first (n + 1)
-  empty_more from w first n all late cell low high = dite (ℕ_discrete n cell)
-      (λ e. subst (λ (z : ℕ). IsSeen from (looked w n empty) z (λ word. word ≡ empty)) e (seen_here from w (looked w n empty) n empty (λ word. word ≡ empty) (by_look w n empty) late refl))
-      (λ ne. seen_still from w (looked w n empty) n cell empty (λ word. word ≡ empty) (by_look w n empty) ne (all cell low (omega (arith, high, ne))))
+  empty_more from w first n all late = all_more (λ word. word ≡ empty) from w (looked w n empty) first n empty (by_look w n empty) all late refl
 
   -- where no other seat is out, what was seen is so
   pub is_now : (holds : Law N) → Fresh holds → (k : Layout) (id from : ℕ) (v : View N) (cell : ℕ) (P : Word → Type 0) → v.alone ≡ true → IsSeen from v cell P → HasNow holds k id v cell P

@@ -7,3 +7,4 @@ pub mod PlainExchanges
 pub mod PlainPool
 pub mod Buffers
 pub mod Packets
+pub mod Waiting

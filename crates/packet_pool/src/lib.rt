@@ -8,6 +8,7 @@ mod making;
 mod packet;
 mod plain;
 mod pool;
+mod posting;
 mod taking;
 
 pub use item::Item;
