@@ -8,3 +8,4 @@ pub mod PlainPool
 pub mod Buffers
 pub mod Packets
 pub mod Waiting
+pub mod Least

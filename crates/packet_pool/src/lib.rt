@@ -2,6 +2,7 @@
 //! worker.
 #![tactic(auto)]
 
+mod claiming;
 mod item;
 mod law;
 mod making;

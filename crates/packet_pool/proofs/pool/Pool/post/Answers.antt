@@ -37,11 +37,12 @@ returns-clause-back g c = let n = c.args.packet.number in let y = c.args.packet.
 )
 
 pub returns-clause-full : goal.returns-clause-full
-returns-clause-full g c = let k = layout_in c.args.self.now in let f = c.post_stowed.ensures.full c.if-post_stowed.false in let all = f.2 in let end = buffers_of k + ready_count k in
-    (subst (λ z. OnlyLooked z (view c.unstow-buffer.new.seat)) c.stow.ensures.view (subst (λ z. OnlyLooked (view c.stow.new.seat) z) (sym c.unstow-buffer.ensures.view) f.0),
-    subst (λ z. AllFull k z.steps (view c.unstow-buffer.new.seat) end) c.stow.ensures.view (subst (λ z. AllFull k (view c.stow.new.seat).steps z end) (sym c.unstow-buffer.ensures.view) all))
+returns-clause-full g c = let k = layout_in c.args.self.now in let f = c.post_stowed.ensures.full c.if-post_stowed.false in let all = f.2 in let end = buffers_of k + ready_count k in (
+  subst (λ z. OnlyLooked z (view c.unstow-buffer.new.seat)) c.stow.ensures.view (subst (λ z. OnlyLooked (view c.stow.new.seat) z) (sym c.unstow-buffer.ensures.view) f.0),
+  subst (λ z. AllFull k z.steps (view c.unstow-buffer.new.seat) end) c.stow.ensures.view (subst (λ z. AllFull k (view c.stow.new.seat).steps z end) (sym c.unstow-buffer.ensures.view) all),
+)
 
 pub returns-clause-full_now : goal.returns-clause-full_now
 returns-clause-full_now g c = λ alone cell is. let k = layout_in c.args.self.now in let f = c.post_stowed.ensures.full c.if-post_stowed.false in let v = view c.stow.new.seat in let u = view c.post_stowed.new.seat in
     subst (λ z. HasNow g.L.BoardLaw.holds k (number c.unstow-buffer.new.seat) z cell (HasPacket k)) (sym c.unstow-buffer.ensures.view)
-        (is_now g.L.BoardLaw.holds g.met.L.PoolLaw.fresh k _ v.steps u cell (HasPacket k) (f.0.alone ∙ (ap (λ z. z.alone) c.stow.ensures.view ∙ alone)) (f.2 cell is.0 is.1))
+    (is_now g.L.BoardLaw.holds g.met.L.PoolLaw.fresh k _ v.steps u cell (HasPacket k) (f.0.alone ∙ (ap (λ z. z.alone) c.stow.ensures.view ∙ alone)) (f.2 cell is.0 is.1))

@@ -16,9 +16,12 @@ exchange-requires-clause-words g c = let s = c.requires.stowed.0 in let next = (
 
 pub exchange-requires-clause-law : goal.exchange-requires-clause-law
 exchange-requires-clause-law g c = λ ws out hs vs found meets. let n = c.args.number in let v = view c.args.seat.now in let s = c.requires.stowed.0 in let y = s.0 in let cell = c.args.cell in let order = c.args.order in
-    let notes = g.L.PoolLaw.with_posted (item order cell y) v.notes in let given : flat (held c.args.seat.now n) ≡ Some y = ap flat s.1 in
-    (notes, subst (λ (z : Option Buffer × Option Buffer). g.L.BoardLaw.allows v cell empty (ready_word order n) z.0 z.1 notes) (λ i. (sym given i, sym meets.sort i))
-        (g.met.L.PoolLaw.posts v cell n y order (subst (λ l. IsReadyCell l cell) (sym c.requires.seat.1) c.requires.cell) (subst (λ l. n < l.small) (sym c.requires.seat.1) c.requires.stowed.1) (c.requires.may y s.1)), (y, given, refl))
+    let notes = g.L.PoolLaw.with_posted (item order cell y) v.notes in let given : flat (held c.args.seat.now n) ≡ Some y = ap flat s.1 in (
+      notes,
+      subst (λ (z : Option Buffer × Option Buffer). g.L.BoardLaw.allows v cell empty (ready_word order n) z.0 z.1 notes) (λ i. (sym given i, sym meets.sort i))
+          (g.met.L.PoolLaw.posts v cell n y order (subst (λ l. IsReadyCell l cell) (sym c.requires.seat.1) c.requires.cell) (subst (λ l. n < l.small) (sym c.requires.seat.1) c.requires.stowed.1) (c.requires.may y s.1)),
+      (y, given, refl),
+    )
 
 pub exchange-requires-clause-tells : goal.exchange-requires-clause-tells
 exchange-requires-clause-tells g c = λ ws out hs vs word seen at ne. subst (λ l. HasPacket l word) (sym c.requires.seat.1) (⊎_elim (λ e. absurd (ne e)) (λ h. h) ((g.met.L.PoolLaw.cells _ ws _ vs seen.lawful).ready c.args.cell word c.requires.cell at))
