@@ -32,13 +32,13 @@ abbrev pub number_of : Packet → ℕ
 number_of p = p.number
 
 abbrev pub content : Packet → Buffer
-content p = p.buffer
+content p = record { bytes = p.bytes.items; header = p.header; from = p.from; len = p.len; gathered = p.gathered; signal = p.signal }
 
 abbrev pub long_number : LongPacket → ℕ
 long_number p = p.number
 
 abbrev pub long_content : LongPacket → Buffer
-long_content p = p.buffer
+long_content p = record { bytes = p.bytes.items; header = p.header; from = p.from; len = p.len; gathered = p.gathered; signal = p.signal }
 
 -- the packet names a buffer of its sort that is in the hands and out of its slot
 abbrev pub IsPacket : Layout → Held → Packet → Type 0

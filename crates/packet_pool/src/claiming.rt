@@ -72,10 +72,7 @@ impl<L: PoolLaw> Pool<L> {
         match self.least_ready(seat) {
             None => Err(NoPacket::Empty),
             Some(chosen) => match self.claim_word(seat, chosen) {
-                Ok(buffer) => Ok(Packet {
-                    number: chosen.number,
-                    buffer,
-                }),
+                Ok(buffer) => Ok(Packet::of(chosen.number, buffer)),
                 Err(word) => Err(NoPacket::Lost(word)),
             },
         }

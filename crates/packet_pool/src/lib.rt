@@ -3,6 +3,7 @@
 #![tactic(auto)]
 
 mod claiming;
+mod held;
 mod item;
 mod law;
 mod making;

@@ -1,25 +1,39 @@
 //! Packets: buffers in a seat's hands, and the answers of a pool.
-ghost use Rattle.packet_pool.specs.Buffers.{IsSmallBuffer, IsLongBuffer};
+ghost use Rattle.std.specs.Prelude.{◌≡◌, ◌≤◌, vec_len};
+ghost use Rattle.fragments.specs.declared.limits.TheConstants.{LONG, PIECE};
+ghost use Rattle.packet_board.specs.declared.buffer.TheConstants.{SMALL_BYTES};
 
-use packet_board::{Buffer, Word};
-use rpc_header::HeaderFault;
+use fragments::Gathered;
+use packet_board::Word;
+use rpc_header::{Header, HeaderFault};
 use thiserror::Error;
 use udp_frames::FrameFault;
 
-/// A small buffer in a seat's hands. It must be spent: it is given back or posted, and cannot be dropped.
+/// A small buffer in a seat's hands: its number, and what the board keeps of a buffer. It must be spent: it is given back
+/// or posted, and cannot be dropped.
 #[derive(Debug)]
 pub struct Packet {
     pub(crate) number: u16,
-    pub(crate) buffer: Buffer,
-    pub ghost within: { IsSmallBuffer buffer },
+    pub(crate) bytes: Vec<u8>,
+    pub(crate) header: Header,
+    pub(crate) from: u8,
+    pub(crate) len: usize,
+    pub(crate) gathered: Gathered,
+    pub(crate) signal: bool,
+    pub ghost within: { (vec_len bytes ≡ SMALL_BYTES) × (len ≤ PIECE) × (1 ≤ from) × (from ≤ 254) },
 }
 
 /// A long buffer in a seat's hands. It must be spent too.
 #[derive(Debug)]
 pub struct LongPacket {
     pub(crate) number: u16,
-    pub(crate) buffer: Buffer,
-    pub ghost within: { IsLongBuffer buffer },
+    pub(crate) bytes: Vec<u8>,
+    pub(crate) header: Header,
+    pub(crate) from: u8,
+    pub(crate) len: usize,
+    pub(crate) gathered: Gathered,
+    pub(crate) signal: bool,
+    pub ghost within: { (vec_len bytes ≡ LONG) × (len ≤ LONG) × (1 ≤ from) × (from ≤ 254) },
 }
 
 /// Each free cell was seen without its buffer.

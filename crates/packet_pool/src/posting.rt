@@ -3,9 +3,10 @@ ghost use Rattle.std.specs.Prelude.{◌≡◌, ◌≢◌, ℕ, ◌+◌, ◌<◌,
 ghost use mathlib.Core.Option.{none, some};
 ghost use Rattle.packet_board.specs.declared.buffer.Buffer.{Buffer as AnyBuffer};
 ghost use Rattle.packet_board.specs.Words.{buffers_of, empty};
-ghost use Rattle.packet_board.specs.Hands.{updated, IsStowed};
+ghost use Rattle.packet_board.specs.Hands.{updated, IsStowed, IsUnstowed};
 ghost use Rattle.packet_board.specs.Views.{exchanged, looked};
-ghost use Rattle.packet_board.specs.Seats.{view, held, number, IsSeatOf, IsSameSeat};
+ghost use Rattle.packet_board.specs.Seats.{view, held, number as seat_number, IsSeatOf, IsSameSeat};
+ghost use Rattle.packet_pool.specs.Buffers.{IsSmallBuffer};
 ghost use Rattle.packet_pool.specs.Cells.{ready_count, IsReadyCell, ready_word, item, HasPacket};
 ghost use Rattle.packet_pool.specs.Laws.{MayPost};
 ghost use Rattle.packet_pool.specs.Packets.{board_of, layout_in, number_of, content, IsPacket, OnlyLooked};
@@ -14,7 +15,7 @@ ghost use Rattle.packet_pool.specs.Waiting.{AllFull, AreFull, Posts};
 use crate::law::PoolLaw;
 use crate::packet::Packet;
 use crate::pool::Pool;
-use packet_board::{Seat, Word};
+use packet_board::{Buffer, Seat, Word};
 use std::marker::Brand;
 
 impl<L: PoolLaw> Pool<L> {
@@ -30,15 +31,37 @@ impl<L: PoolLaw> Pool<L> {
         ensures full { IfErr result (λ _. OnlyLooked (view seat.old) (view seat.new) × AllFull (layout_in self.now) (view seat.old).steps (view seat.new) (buffers_of (layout_in self.now) + ready_count (layout_in self.now))) }
 
         // Where no other seat is out, each ready cell is full now if the packet comes back.
-        ensures full_now { (view seat.old).alone ≡ true → IfErr result (λ _. AreFull L.holds (layout_in self.now) (number seat.new) (view seat.new)) }
+        ensures full_now { (view seat.old).alone ≡ true → IfErr result (λ _. AreFull L.holds (layout_in self.now) (seat_number seat.new) (view seat.new)) }
     {
-        let Packet { number, buffer } = packet;
+        let (number, buffer) = packet.into_buffer();
+        match self.post_buffer(seat, number, buffer, order) {
+            Ok(()) => Ok(()),
+            Err(buffer) => Err(Packet::of(number, buffer)),
+        }
+    }
+
+    // Puts a buffer into the least empty ready cell, or gives it back.
+    fn post_buffer(
+        &self,
+        seat: &mut Seat<L>,
+        number: u16,
+        buffer: Buffer,
+        order: u64,
+    ) -> Result<(), Buffer>
+        requires seat { IsSeatOf (board_of self.now) seat.old }
+        requires buffer { IsUnstowed (held seat.old) number × (number < (layout_in self.now).small) × IsSmallBuffer buffer }
+        requires may { MayPost L.right L.posted L.may_post L.is_loose (view seat.old).notes number buffer order }
+        ensures seat { IsSameSeat seat.old seat.new }
+        ensures posted { IfOk result (λ _. Posts L.with_posted (layout_in self.now) number buffer order (view seat.old) (view seat.new) × (held seat.new ≡ updated number none (held seat.old))) }
+        ensures back { IfErr result (λ back. (back ≡ buffer) × (held seat.new ≡ held seat.old)) }
+        ensures full { IfErr result (λ _. OnlyLooked (view seat.old) (view seat.new) × AllFull (layout_in self.now) (view seat.old).steps (view seat.new) (buffers_of (layout_in self.now) + ready_count (layout_in self.now))) }
+        ensures full_now { (view seat.old).alone ≡ true → IfErr result (λ _. AreFull L.holds (layout_in self.now) (seat_number seat.new) (view seat.new)) }
+    {
         self.board.stow(seat, number, buffer);
         if self.post_stowed(seat, number, order) {
             return Ok(());
         }
-        let buffer = self.board.unstow(seat, number);
-        Err(Packet { number, buffer })
+        Err(self.board.unstow(seat, number))
     }
 
     // Puts a stowed buffer into the least empty ready cell, and says whether there was one.

@@ -30,7 +30,7 @@ impl<L: PoolLaw> Pool<L> {
         ensures least { (view seat.old).alone ≡ true → MatchResult result (λ packet. AreEmpty L.holds (layout_in self.now) (number seat.new) (view seat.new) 0 (number_of packet)) (λ _. AreEmpty L.holds (layout_in self.now) (number seat.new) (view seat.new) 0 (layout_in self.now).small) }
     {
         match self.take_from(seat, 0, self.layout.small as u16) {
-            Some((number, buffer)) => Ok(Packet { number, buffer }),
+            Some((number, buffer)) => Ok(Packet::of(number, buffer)),
             None => Err(Empty),
         }
     }
@@ -46,7 +46,7 @@ impl<L: PoolLaw> Pool<L> {
     {
         let first = self.layout.small as u16;
         match self.take_from(seat, first, self.layout.buffers() as u16) {
-            Some((number, buffer)) => Ok(LongPacket { number, buffer }),
+            Some((number, buffer)) => Ok(LongPacket::of(number, buffer)),
             None => Err(Empty),
         }
     }
@@ -61,7 +61,7 @@ impl<L: PoolLaw> Pool<L> {
         ensures given { view seat.new ≡ exchanged (view seat.old) (number_of packet) empty (full (number_of packet)) (view seat.old).notes }
         ensures held { held seat.new ≡ updated (number_of packet) none (held seat.old) }
     {
-        let Packet { number, buffer } = packet;
+        let (number, buffer) = packet.into_buffer();
         self.give_back(seat, number, buffer);
     }
 
@@ -74,7 +74,7 @@ impl<L: PoolLaw> Pool<L> {
         ensures given { view seat.new ≡ exchanged (view seat.old) (long_number packet) empty (full (long_number packet)) (view seat.old).notes }
         ensures held { held seat.new ≡ updated (long_number packet) none (held seat.old) }
     {
-        let LongPacket { number, buffer } = packet;
+        let (number, buffer) = packet.into_buffer();
         self.give_back(seat, number, buffer);
     }
 

@@ -11,10 +11,12 @@ use Rattle.packet_pool.proofs.Hands.{found_stowed, twice_updated, same_content}
 use Rattle.packet_pool.proofs.pool.Pool.claim_word.Goals as goal
 
 pub exchange-requires-clause-law : goal.exchange-requires-clause-law
-exchange-requires-clause-law g c = λ ws out hs vs found meets. let v = view c.args.seat.now in let w = c.args.chosen in let y = meets.sort.0 in let notes = g.L.PoolLaw.with_claimed (item w.order w.cell y) v.notes in
-    (notes, subst (λ (z : Option Buffer). g.L.BoardLaw.allows v w.cell (ready_word w.order w.number) empty None z notes) (sym meets.sort.1)
-        (g.met.L.PoolLaw.claims v w.cell w.number y w.order (subst (λ l. IsReadyCell l w.cell) (sym c.requires.seat.1) c.requires.cell) (subst (λ l. w.number < l.small) (sym c.requires.seat.1) c.requires.packet.0)),
-    (y, meets.sort.1, refl, (g.met.L.PoolLaw.cells _ ws _ vs meets.seen.lawful).postable w.cell w.number (ready_word w.order w.number) y c.requires.cell meets.at_cell refl (at_map flat hs w.number (some found) (meets.taken w.number refl) ∙ ap some meets.sort.1)))
+exchange-requires-clause-law g c = λ ws out hs vs found meets. let v = view c.args.seat.now in let w = c.args.chosen in let y = meets.sort.0 in let notes = g.L.PoolLaw.with_claimed (item w.order w.cell y) v.notes in (
+  notes,
+  subst (λ (z : Option Buffer). g.L.BoardLaw.allows v w.cell (ready_word w.order w.number) empty None z notes) (sym meets.sort.1)
+      (g.met.L.PoolLaw.claims v w.cell w.number y w.order (subst (λ l. IsReadyCell l w.cell) (sym c.requires.seat.1) c.requires.cell) (subst (λ l. w.number < l.small) (sym c.requires.seat.1) c.requires.packet.0)),
+  (y, meets.sort.1, refl, (g.met.L.PoolLaw.cells _ ws _ vs meets.seen.lawful).postable w.cell w.number (ready_word w.order w.number) y c.requires.cell meets.at_cell refl (at_map flat hs w.number (some found) (meets.taken w.number refl) ∙ ap some meets.sort.1)),
+)
 
 pub exchange-requires-clause-tells : goal.exchange-requires-clause-tells
 exchange-requires-clause-tells g c = λ ws out hs vs word seen at ne alone. let now = c.requires.now alone ws out hs vs seen in ne (some-injective word now.0 (sym at ∙ now.1) ∙ now.2)
