@@ -9,3 +9,5 @@ pub mod Buffers
 pub mod Packets
 pub mod Waiting
 pub mod Least
+pub mod Contents
+pub mod Lending

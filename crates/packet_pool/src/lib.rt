@@ -3,9 +3,11 @@
 #![tactic(auto)]
 
 mod claiming;
+mod frames;
 mod held;
 mod item;
 mod law;
+mod long;
 mod making;
 mod packet;
 mod plain;
@@ -15,6 +17,6 @@ mod taking;
 
 pub use item::Item;
 pub use law::PoolLaw;
-pub use packet::{Empty, LongPacket, NoPacket, Packet, Unread};
+pub use packet::{DATA_AT, Empty, LongPacket, NoPacket, Packet, Unread};
 pub use plain::{PlainLaw, PlainNotes};
 pub use pool::Pool;

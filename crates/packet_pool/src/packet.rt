@@ -5,9 +5,12 @@ ghost use Rattle.packet_board.specs.declared.buffer.TheConstants.{SMALL_BYTES};
 
 use fragments::Gathered;
 use packet_board::Word;
-use rpc_header::{Header, HeaderFault};
+use rpc_header::{HEADER_LEN, Header, HeaderFault};
 use thiserror::Error;
-use udp_frames::FrameFault;
+use udp_frames::{FrameFault, HEADERS_LEN};
+
+/// Where the data of a small packet begins: behind the headers of its frame and its own.
+pub const DATA_AT: usize = HEADERS_LEN + HEADER_LEN;
 
 /// A small buffer in a seat's hands: its number, and what the board keeps of a buffer. It must be spent: it is given back
 /// or posted, and cannot be dropped.
