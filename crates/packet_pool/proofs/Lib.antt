@@ -1,0 +1,4 @@
+pub mod Seen
+pub mod Hands
+pub mod Least
+pub mod Bytes

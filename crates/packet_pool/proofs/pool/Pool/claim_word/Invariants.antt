@@ -1,0 +1,7 @@
+use Rattle.std.proofs.Common.{◌≡◌, Some, true}
+use Rattle.packet_board.specs.declared.buffer.Buffer.{Buffer}
+use Rattle.packet_pool.specs.Cells.{item}
+use Rattle.packet_pool.proofs.pool.Pool.claim_word.Given as goal
+
+abbrev pub ghosts-exchange : goal.ghosts-exchange
+ghosts-exchange g a = record { chooses = λ v found notes. (y : Buffer) × (found ≡ Some y) × (notes ≡ g.L.PoolLaw.with_claimed (item a.old.tag a.cell y) v.notes) × g.L.PoolLaw.may_post y; tells = λ v word. v.alone ≡ true → ⊥ }

@@ -1,0 +1,13 @@
+pub mod Cells
+pub mod Laws
+pub mod Plain
+pub mod PlainParts
+pub mod PlainSteps
+pub mod PlainExchanges
+pub mod PlainPool
+pub mod Buffers
+pub mod Packets
+pub mod Waiting
+pub mod Least
+pub mod Contents
+pub mod Lending
