@@ -2,12 +2,13 @@
 ghost use Rattle.std.specs.Prelude.{◌≡◌, [], ◌∷◌};
 ghost use Rattle.packet_pool.specs.Packets.{number_of};
 
-use crate::moves::{claim, claims, give, posts, take, takes};
+use crate::moves::{claim, claim_rounds, claims, give, post_rounds, posts, take, takes};
 use crate::{Packet, PlainLaw, Pool, Unread};
 use ff_io::Station;
 use packet_board::Layout;
 use rpc_header::{Activity, CallId, CallNumber, Export, Header, HeaderFault, Kind, fits};
 use std::test::Fail;
+use std::thread::join_mut;
 use udp_frames::{FrameFault, write_headers};
 
 /// A layout without long buffers.
@@ -183,5 +184,30 @@ fn what_was_sealed_is_read_back(rt: HostRuntime) -> Result<(), Fail> {
     );
     assert_eq!(rt; *packet.header(), CALL);
     give(&pool, &mut seat, packet);
+    Ok(())
+}
+
+#[test]
+fn two_threads_move_packets_and_all_come_home(rt: HostRuntime) -> Result<(), Fail> {
+    let (pool, mut one) = Pool::<PlainLaw>::make(rt.alloc(), layout(4, 2))?;
+    let mut two = pool.board().split(&mut one);
+    let (posted, claimed) = join_mut(
+        &rt,
+        &mut || post_rounds(&pool, &mut one, 2_000),
+        &mut || claim_rounds(&pool, &mut two, 2_000),
+    );
+    assert!(rt; claimed <= 2_000 && posted <= 2_000);
+    pool.board().join(&mut one, two);
+    // What still waits is claimed, and the board closes with each buffer in its free cell.
+    let left = claim_rounds(&pool, &mut one, 3);
+    assert_eq!(rt; posted, claimed + left);
+    let Ok(closed) = pool.close(one) else {
+        panic!(rt; "no seat is out")
+    };
+    assert_eq!(rt; closed.buffers.len(), 4);
+    for (cell, word) in closed.words.as_slice().iter().enumerate() {
+        let own = if cell < 4 { Some(cell as u16) } else { None };
+        assert_eq!(rt; word.buffer, own);
+    }
     Ok(())
 }
