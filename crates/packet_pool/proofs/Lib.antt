@@ -2,3 +2,4 @@ pub mod Seen
 pub mod Hands
 pub mod Least
 pub mod Bytes
+pub mod Posters

@@ -1,0 +1,13 @@
+use Rattle.std.proofs.Common.{refl, ap, ◌∙◌, None}
+use mathlib.Core.Option.{some, none}
+use Rattle.packet_board.specs.Hands.{updated, nothing}
+use Rattle.packet_board.specs.Seats.{held}
+use Rattle.packet_board.proofs.Held.{out_one, updated_back}
+use Rattle.packet_pool.specs.Packets.{number_of}
+use Rattle.packet_pool.proofs.moves.give.Goals as goal
+
+pub give-requires-clause-packet : goal.give-requires-clause-packet
+give-requires-clause-packet c = let p = c.requires.packet in (out_one (number_of c.args.packet) nothing (held c.args.seat.now) p.0, p.1)
+
+pub returns-clause-empty : goal.returns-clause-empty
+returns-clause-empty c = let n = number_of c.args.packet in c.give.ensures.held ∙ (ap (λ h. updated n none h) c.requires.packet.0 ∙ updated_back n (some None) nothing refl)
