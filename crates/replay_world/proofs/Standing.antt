@@ -8,7 +8,7 @@ use Rattle.std.proofs.lemmas.Result.{on_ok_weaker}
 use Rattle.call_rules.specs.Packet.{Call, Packet}
 use Rattle.call_rules.specs.Worker.{Run}
 use Rattle.replay_model.specs.declared.limits.TheConstants.{FIRST_CLIENT}
-use Rattle.replay_model.specs.Record.{Act, Records, Counts, Failure, Cause, Unanswered, RefusedFor, HasRun, Fails, counts_of, no_records, recorded, is_unanswered}
+use Rattle.replay_model.specs.Record.{Act, Records, Counts, Failure, Unanswered, RefusedFor, HasRun, Fails, counts_of, no_records, recorded, is_unanswered}
 use Rattle.replay_model.specs.World.{World, Server, Client, numbered, packet_at, booted_server, first_world}
 use Rattle.replay_model.specs.declared.event.Event.{Event}
 use Rattle.replay_model.specs.Step.{Outcome, behind, with_packet, outcome, step}

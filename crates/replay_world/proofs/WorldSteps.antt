@@ -1,5 +1,5 @@
 -- The events of the model by the parts of its world.
-use Rattle.std.proofs.Common.{◌≡◌, ℕ, ◌*◌, ◌≤◌, ◌<◌, List, [], ◌∷◌, ◌++◌, length, Option, Some, None, true, false, ap, ◌∙◌}
+use Rattle.std.proofs.Common.{◌≡◌, ℕ, ◌*◌, ◌≤◌, ◌<◌, [], ◌∷◌, ◌++◌, length, Option, Some, None, true, false, ap, ◌∙◌}
 use Rattle.std.specs.Prelude.{nat_lt}
 use Rattle.std.proofs.lemmas.Bool.{cond-true, cond-false, eq-eqb, ne_eqb, le-ltb, lt-ltb}
 use Rattle.udp_frames.specs.Damage.{flipped}
@@ -10,7 +10,7 @@ use Rattle.replay_model.specs.declared.discard.Discard.TheVariants as why
 use Rattle.replay_model.specs.Record.{Readies, Shows}
 use Rattle.replay_model.specs.World.{World, Client, numbered}
 use Rattle.replay_model.specs.Arrival.{frame_of}
-use Rattle.replay_model.specs.Step.{Outcome, impossible, discarded, nothing, call_by, call_event, server_takes, client_takes, machine_takes, receives, deliver_event, damage_event, show_event, ticks_client, ticks_line, tick}
+use Rattle.replay_model.specs.Step.{impossible, discarded, nothing, call_by, call_event, server_takes, client_takes, machine_takes, receives, deliver_event, damage_event, show_event, ticks_client, ticks_line, tick}
 
 pub call_event-none : (w : World) (m p : ℕ) (o : Option Client) (asked : CallWord) → o ≡ None → call_event w m p o asked ≡ impossible w
 unfolding call_event

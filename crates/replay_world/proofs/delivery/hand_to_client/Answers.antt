@@ -1,6 +1,6 @@
 use Rattle.std.proofs.Common.{◌≡◌, ℕ, ◌-◌, ◌≤◌, ◌<◌, List, Some, length, set, ap, sym, subst, ◌∙◌, arith}
 use Rattle.call_rules.specs.Packet.{Packet}
-use Rattle.replay_model.specs.World.{World, Client}
+use Rattle.replay_model.specs.World.{Client}
 use Rattle.replay_model.specs.Step.{Outcome, client_takes, discarded, with_client}
 use Rattle.replay_packets.specs.Packet.{packet_of}
 use Rattle.replay_client.specs.declared.line.Took.{Took}

@@ -1,10 +1,10 @@
-use Rattle.std.proofs.Common.{◌≡◌, ℕ, ◌-◌, ◌≤◌, List, [], ◌∷◌, ◌++◌, length, set, ap, sym, subst, refl, ◌∙◌, arith}
+use Rattle.std.proofs.Common.{◌≡◌, ℕ, ◌-◌, ◌≤◌, List, ◌++◌, length, set, ap, sym, subst, refl, ◌∙◌, arith}
 use Rattle.std.proofs.lemmas.Result.{on_ok_weaker}
 use Rattle.replay_model.specs.declared.event.CallWord.{CallWord}
 use Rattle.replay_model.specs.Record.{Records, Impossible, TooFast, Starts, recorded}
 use Rattle.replay_model.specs.Lines.{lines_of_act}
 use Rattle.replay_model.specs.World.{World, Client, numbered}
-use Rattle.replay_model.specs.Step.{Outcome, call_event, call_by, impossible, behind, with_client}
+use Rattle.replay_model.specs.Step.{Outcome, call_by, impossible, behind, with_client}
 use Rattle.replay_client.specs.declared.machine.Called.{Called}
 use Rattle.replay_client.specs.declared.machine.Called.TheVariants as called
 use Rattle.replay_client.specs.Client.{CallsAs, KeepsImpossible, StartsAs}

@@ -3,12 +3,11 @@ use Rattle.std.proofs.lemmas.Result.{on_ok_weaker}
 use Rattle.call_rules.specs.Packet.{Packet, call_of}
 use Rattle.replay_model.specs.Record.{CallerSends, recorded}
 use Rattle.replay_model.specs.Lines.{packet_line}
-use Rattle.replay_model.specs.Step.{Outcome, with_packet, tells}
+use Rattle.replay_model.specs.Step.{with_packet, tells}
 use Rattle.replay_model.specs.Process as process
 use Rattle.replay_model.specs.World.{World}
 use Rattle.replay_packets.specs.Sent.{sent_of}
 use Rattle.replay_client.specs.declared.told.Said.{Said}
-use Rattle.replay_client.specs.declared.told.Said.TheVariants as said
 use Rattle.replay_client.specs.Told.{Says, cause_of}
 use Rattle.replay_world.specs.Stored.{Stored}
 use Rattle.replay_world.specs.Played.{Plays, fails}

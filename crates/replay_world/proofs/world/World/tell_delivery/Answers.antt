@@ -1,9 +1,9 @@
-use Rattle.std.proofs.Common.{◌≡◌, ℕ, List, [], ◌∷◌, ◌++◌, ap, sym, subst, refl}
+use Rattle.std.proofs.Common.{ℕ, List, sym, subst, refl}
 use Rattle.std.proofs.lemmas.List.{append-nil}
 use Rattle.std.proofs.lemmas.Result.{on_ok_weaker}
 use Rattle.call_rules.specs.Packet.{call_of}
-use Rattle.replay_model.specs.Record.{Records, Hears, recorded}
-use Rattle.replay_model.specs.Step.{Outcome, behind}
+use Rattle.replay_model.specs.Record.{Hears, recorded}
+use Rattle.replay_model.specs.Step.{behind}
 use Rattle.replay_client.specs.Client.{HearsAs}
 use Rattle.replay_world.specs.Delivery.{TakenAs}
 use Rattle.replay_world.specs.declared.delivery.Taken.{Taken}

@@ -5,7 +5,7 @@ use Rattle.call_rules.specs.Worker as rules
 use Rattle.replay_model.specs.Record.{Act, Works, ServerSends, Rejects, Records, recorded}
 use Rattle.replay_model.specs.Lines.{lines_of_act, packet_line}
 use Rattle.replay_model.specs.World.{World}
-use Rattle.replay_model.specs.Step.{Outcome, adds, with_packet}
+use Rattle.replay_model.specs.Step.{adds, with_packet}
 use Rattle.replay_packets.specs.Sent.{sent_of}
 use Rattle.replay_server.specs.declared.step.Adds.{Adds}
 use Rattle.replay_server.specs.Stepped.{StandsFor}

@@ -1,4 +1,4 @@
-use Rattle.std.proofs.Common.{◌≡◌, ℕ, ◌-◌, ◌≤◌, List, length, set, Bool, true, false, Option, Some, None, Ok, ap, sym, subst, refl, ◌∙◌, arith}
+use Rattle.std.proofs.Common.{◌≡◌, ℕ, ◌-◌, ◌≤◌, List, length, set, true, false, Option, Ok, ap, sym, subst, refl, ◌∙◌, arith}
 use Rattle.call_rules.specs.Packet.{Call, call_of}
 use Rattle.replay_model.specs.World.{World, Client, numbered}
 use Rattle.replay_model.specs.Step.{Outcome, nothing, tells, tick, ticks_line, with_client}
@@ -10,7 +10,7 @@ use Rattle.replay_client.specs.Told.{Says, TellsAs}
 use Rattle.replay_client.specs.Client.{TicksAs}
 use Rattle.replay_world.specs.Stored.{Stored}
 use Rattle.replay_world.specs.Stands.{Stands, IsClient}
-use Rattle.replay_world.specs.Played.{Plays, PlaysTick, is_silent}
+use Rattle.replay_world.specs.Played.{PlaysTick, is_silent}
 use Rattle.replay_world.specs.contracts.world.World.{the_view}
 use Rattle.replay_world.proofs.Machines.{ticked_in}
 use Rattle.replay_world.proofs.Numbered.{numbered-none}

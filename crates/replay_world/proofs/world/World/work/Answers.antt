@@ -1,14 +1,13 @@
-use Rattle.std.proofs.Common.{◌≡◌, ℕ, List, [], ◌∷◌, ◌++◌, ap, sym, subst, ◌∙◌}
+use Rattle.std.proofs.Common.{◌≡◌, ℕ, List, sym, subst}
 use Rattle.std.proofs.lemmas.Result.{on_ok_weaker}
 use Rattle.replay_model.specs.Record.{Impossible, Idles}
-use Rattle.replay_model.specs.World.{World, Server, numbered}
+use Rattle.replay_model.specs.World.{Server, numbered}
 use Rattle.replay_model.specs.Step.{Outcome, work_event, impossible}
 use Rattle.replay_server.specs.declared.step.Worked.{Worked}
 use Rattle.replay_server.specs.declared.step.Worked.TheVariants as worked
 use Rattle.replay_server.specs.Stepped.{WorksAs, KeepsIdle, StepsAs}
 use Rattle.replay_world.specs.Stored.{Stored}
 use Rattle.replay_world.specs.Stands.{Stands}
-use Rattle.replay_world.specs.Played.{Plays}
 use Rattle.replay_world.specs.contracts.world.World.{the_view}
 use Rattle.replay_world.proofs.Machines.{worker_in}
 use Rattle.replay_world.proofs.Standing.{plays_one, plays_as, stands-server}
