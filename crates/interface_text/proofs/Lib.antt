@@ -1,0 +1,15 @@
+pub mod Ahead
+pub mod Ending
+pub mod Forms
+pub mod Forward
+pub mod Keeping
+pub mod Looking
+pub mod Residue
+pub mod Rows
+pub mod Scanned
+pub mod Settling
+pub mod Shaping
+pub mod Spelling
+pub mod Storing
+pub mod Taking
+pub mod Telling

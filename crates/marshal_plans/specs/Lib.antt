@@ -1,0 +1,16 @@
+pub mod Basics
+pub mod Data
+pub mod Forms
+pub mod Plan
+pub mod Encoding
+pub mod Reading
+pub mod Steps
+pub mod Writing
+pub mod Lefts
+pub mod Cursors
+pub mod Puts
+pub mod Gets
+pub mod Lengths
+pub mod Limits
+pub mod Pairs
+pub mod Text
