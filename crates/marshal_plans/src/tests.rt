@@ -1,9 +1,30 @@
-//! The worked values.
-use crate::{Plan, PlanPair, Plans, Value, compile, get, is_shallow, put};
+//! The worked values, the plans of two interfaces, and values at both ends of their ranges.
+use crate::{
+    Basic, Extent, GetFault, Instruction, Plan, PlanFault, PlanPair, Plans, PutFault, Value,
+    Values, compile, get, is_shallow, put,
+};
 use interface_text::{Ident, Interface, Procedure, Shape};
 use item_list::Items;
-use std::alloc::Global;
+use std::alloc::{AllocError, Global};
 use std::test::Fail;
+
+mod interfaces;
+
+fn array(alloc: Global, count: u32, element: Shape) -> Result<Shape, AllocError> {
+    Ok(Shape::Array(count, Box::new(alloc, element)?))
+}
+
+fn open(alloc: Global, most: u32, element: Shape) -> Result<Shape, AllocError> {
+    Ok(Shape::Open(most, Box::new(alloc, element)?))
+}
+
+fn group(alloc: Global, numbers: &[i128]) -> Result<Value, AllocError> {
+    let mut values = Vec::new(alloc);
+    for number in numbers {
+        values.push(Value::Number(*number))?;
+    }
+    Ok(Value::Group(Values::new(values)))
+}
 
 fn procedure(alloc: Global, arguments: Vec<Shape>, reply: Vec<Shape>) -> Result<Procedure, Fail> {
     Ok(Procedure {
@@ -23,6 +44,12 @@ fn interface(alloc: Global, procedures: Vec<Procedure>) -> Result<Interface, Fai
     })
 }
 
+/// An interface of one procedure with such an argument.
+fn one_argument(alloc: Global, shape: Shape) -> Result<Interface, Fail> {
+    let one = procedure(alloc, vec![in alloc; shape]?, Vec::new(alloc))?;
+    interface(alloc, vec![in alloc; one]?)
+}
+
 fn plans(alloc: Global, interface: &Interface) -> Result<Plans, Fail> {
     if interface.procedures.len() > 256 || !is_shallow(interface) {
         return Err(Fail::new("beyond the limits"));
@@ -36,9 +63,32 @@ fn pair(alloc: Global, arguments: Vec<Shape>, reply: Vec<Shape>) -> Result<PlanP
     Ok(procedures.into_vec().pop().ok_or("a pair")?)
 }
 
+fn plan_of(alloc: Global, shape: Shape) -> Result<Plan, Fail> {
+    let pair = pair(alloc, vec![in alloc; shape]?, Vec::new(alloc))?;
+    Ok(pair.arguments)
+}
+
 fn add(alloc: Global) -> Result<Plan, Fail> {
     let shapes = vec![in alloc; Shape::Cardinal, Shape::Cardinal]?;
     Ok(pair(alloc, shapes, Vec::new(alloc))?.arguments)
+}
+
+/// Whether the number is put as these bytes, and got of them.
+fn goes_both_ways(alloc: Global, shape: Shape, number: i128, bytes: &[u8]) -> Result<bool, Fail> {
+    let plan = plan_of(alloc, shape)?;
+    let values = vec![in alloc; Value::Number(number)]?;
+    let mut room = [7; 9];
+    let len = put(&plan, &values, &mut room)?;
+    let back = get(alloc, &plan, bytes)?;
+    let same = matches!(back.as_slice(), [Value::Number(again)] if *again == number);
+    Ok(same && room.get(..len) == Some(bytes))
+}
+
+/// Whether no value of the type is this number.
+fn is_no_value(alloc: Global, shape: Shape, number: i128) -> Result<bool, Fail> {
+    let plan = plan_of(alloc, shape)?;
+    let values = vec![in alloc; Value::Number(number)]?;
+    Ok(put(&plan, &values, &mut [0; 9]) == Err(PutFault::Shape))
 }
 
 #[test]
@@ -50,5 +100,134 @@ fn the_arguments_of_add_are_put_and_got(rt: HostRuntime) -> Result<(), Fail> {
     assert_eq!(rt; room, [0, 0, 0, 1, 0, 0, 0, 2, 9]);
     let back = get(rt.alloc(), &plan, &[0, 0, 0, 1, 0, 0, 0, 2])?;
     assert!(rt; matches!(back.as_slice(), [Value::Number(1), Value::Number(2)]));
+    Ok(())
+}
+
+#[test]
+fn bytes_that_are_no_arguments_are_refused(rt: HostRuntime) -> Result<(), Fail> {
+    let plan = add(rt.alloc())?;
+    let short = get(rt.alloc(), &plan, &[0, 0, 0, 1, 0, 0, 0]);
+    assert!(rt; matches!(short, Err(GetFault::Short { at: 4 })));
+    let left = get(rt.alloc(), &plan, &[0, 0, 0, 1, 0, 0, 0, 2, 0]);
+    assert!(rt; matches!(left, Err(GetFault::Left { at: 8 })));
+    let boolean = plan_of(rt.alloc(), Shape::Bool)?;
+    let two = get(rt.alloc(), &boolean, &[2]);
+    assert!(rt; matches!(two, Err(GetFault::Range { at: 0 })));
+    let many = plan_of(rt.alloc(), open(rt.alloc(), 2, Shape::Byte)?)?;
+    let three = get(rt.alloc(), &many, &[0, 0, 0, 3, 7, 7, 7]);
+    assert!(rt; matches!(three, Err(GetFault::Range { at: 0 })));
+    let none = get(rt.alloc(), &many, &[0, 0, 0, 2, 7]);
+    assert!(rt; matches!(none, Err(GetFault::Short { at: 5 })));
+    Ok(())
+}
+
+#[test]
+fn values_of_other_types_and_too_little_room_are_refused(rt: HostRuntime) -> Result<(), Fail> {
+    let plan = add(rt.alloc())?;
+    let mut room = [0; 7];
+    let one = vec![in rt.alloc(); Value::Number(1)]?;
+    assert_eq!(rt; put(&plan, &one, &mut room), Err(PutFault::Shape));
+    let two = vec![in rt.alloc(); Value::Number(1), Value::Number(2)]?;
+    assert_eq!(rt; put(&plan, &two, &mut room), Err(PutFault::Room));
+    let grouped = vec![in rt.alloc(); group(rt.alloc(), &[1, 2])?]?;
+    assert_eq!(rt; put(&plan, &grouped, &mut room), Err(PutFault::Shape));
+    Ok(())
+}
+
+#[test]
+fn small_types_go_to_both_ends_of_their_ranges(rt: HostRuntime) -> Result<(), Fail> {
+    let alloc = rt.alloc();
+    assert!(rt; goes_both_ways(alloc, Shape::Bool, 0, &[0])?);
+    assert!(rt; goes_both_ways(alloc, Shape::Bool, 1, &[1])?);
+    assert!(rt; is_no_value(alloc, Shape::Bool, 2)?);
+    assert!(rt; goes_both_ways(alloc, Shape::Byte, 0, &[0])?);
+    assert!(rt; goes_both_ways(alloc, Shape::Byte, 255, &[255])?);
+    assert!(rt; is_no_value(alloc, Shape::Byte, 256)?);
+    assert!(rt; goes_both_ways(alloc, Shape::Choice(3), 0, &[0, 0])?);
+    assert!(rt; goes_both_ways(alloc, Shape::Choice(3), 2, &[0, 2])?);
+    assert!(rt; is_no_value(alloc, Shape::Choice(3), 3)?);
+    assert!(rt; goes_both_ways(alloc, Shape::Choice(65536), 65535, &[255, 255])?);
+    Ok(())
+}
+
+#[test]
+fn large_types_go_to_both_ends_of_their_ranges(rt: HostRuntime) -> Result<(), Fail> {
+    let alloc = rt.alloc();
+    assert!(rt; goes_both_ways(alloc, Shape::Cardinal, 0, &[0; 4])?);
+    assert!(rt; goes_both_ways(alloc, Shape::Cardinal, 4294967295, &[255; 4])?);
+    assert!(rt; is_no_value(alloc, Shape::Cardinal, 4294967296)?);
+    assert!(rt; goes_both_ways(alloc, Shape::Integer, -2147483648, &[128, 0, 0, 0])?);
+    assert!(rt; goes_both_ways(alloc, Shape::Integer, -1, &[255; 4])?);
+    assert!(rt; goes_both_ways(alloc, Shape::Integer, 2147483647, &[127, 255, 255, 255])?);
+    assert!(rt; is_no_value(alloc, Shape::Integer, -2147483649)?);
+    assert!(rt; is_no_value(alloc, Shape::Integer, 2147483648)?);
+    assert!(rt; goes_both_ways(alloc, Shape::LongCard, 0, &[0; 8])?);
+    assert!(rt; goes_both_ways(alloc, Shape::LongCard, 18446744073709551615, &[255; 8])?);
+    assert!(rt; is_no_value(alloc, Shape::LongCard, 18446744073709551616)?);
+    Ok(())
+}
+
+#[test]
+fn an_array_of_records_is_put_and_got(rt: HostRuntime) -> Result<(), Fail> {
+    let alloc = rt.alloc();
+    let element = Shape::Fields(vec![in alloc; Shape::Byte, Shape::LongCard]?);
+    let plan = plan_of(alloc, array(alloc, 2, element)?)?;
+    let elements = vec![in alloc; group(alloc, &[1, 2])?, group(alloc, &[3, 4])?]?;
+    let values = vec![in alloc; Value::Group(Values::new(elements))]?;
+    let mut room = [9; 19];
+    assert_eq!(rt; put(&plan, &values, &mut room), Ok(18));
+    let bytes = [1, 0, 0, 0, 0, 0, 0, 0, 2, 3, 0, 0, 0, 0, 0, 0, 0, 4];
+    assert_eq!(rt; room.get(..18), Some(bytes.as_slice()));
+    let back = get(alloc, &plan, &bytes)?;
+    let mut again = [9; 18];
+    assert_eq!(rt; put(&plan, &back, &mut again), Ok(18));
+    assert_eq!(rt; again, bytes);
+    Ok(())
+}
+
+#[test]
+fn bytes_and_numbers_are_the_same_values(rt: HostRuntime) -> Result<(), Fail> {
+    let alloc = rt.alloc();
+    let text = plan_of(alloc, open(alloc, 9, Shape::Byte)?)?;
+    let packed = Value::Group(Values::of_bytes(vec![in alloc; 5u8, 255]?));
+    let values = vec![in alloc; packed]?;
+    let mut room = [0; 6];
+    assert_eq!(rt; put(&text, &values, &mut room), Ok(6));
+    assert_eq!(rt; room, [0, 0, 0, 2, 5, 255]);
+    let numbers = vec![in alloc; group(alloc, &[5, 255])?]?;
+    let mut other = [0; 6];
+    assert_eq!(rt; put(&text, &numbers, &mut other), Ok(6));
+    assert_eq!(rt; other, room);
+    let wide = plan_of(alloc, array(alloc, 2, Shape::Cardinal)?)?;
+    let mut long = [9; 8];
+    assert_eq!(rt; put(&wide, &values, &mut long), Ok(8));
+    assert_eq!(rt; long, [0, 0, 0, 5, 0, 0, 0, 255]);
+    let back = get(alloc, &text, &room)?;
+    let [Value::Group(got)] = back.as_slice() else {
+        return Err(Fail::new("one group"));
+    };
+    assert_eq!(rt; got.as_bytes(), [5, 255].as_slice());
+    assert!(rt; got.as_slice().is_empty());
+    Ok(())
+}
+
+#[test]
+fn types_of_depth_16_are_compiled_and_no_deeper(rt: HostRuntime) -> Result<(), Fail> {
+    let alloc = rt.alloc();
+    let mut shape = Shape::Cardinal;
+    for _level in 0..15 {
+        shape = Shape::Fields(vec![in alloc; shape]?);
+    }
+    let plan = plan_of(alloc, shape)?;
+    assert_eq!(rt; plan.as_slice().len(), 31);
+    let back = get(alloc, &plan, &[0, 0, 0, 9])?;
+    let mut room = [0; 4];
+    assert_eq!(rt; put(&plan, &back, &mut room), Ok(4));
+    assert_eq!(rt; room, [0, 0, 0, 9]);
+    let mut deep = Shape::Cardinal;
+    for _level in 0..16 {
+        deep = Shape::Fields(vec![in alloc; deep]?);
+    }
+    assert!(rt; !is_shallow(&one_argument(alloc, deep)?));
     Ok(())
 }
