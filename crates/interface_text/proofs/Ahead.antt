@@ -1,12 +1,12 @@
 -- What the grammar has behind tokens that were read is to come, and the syntax has what is next.
 use Rattle.std.proofs.Common.{◌≡◌, List, [], ◌∷◌, ◌++◌, ℕ, Result, Ok, Err, sym, subst}
 use Rattle.interface_text.specs.Grammar.{Symbol, Derives, behind_first_line, tokens_in}
-use Rattle.interface_text.specs.Syntax.{act_of}
+use Rattle.interface_tokens.specs.Syntax.{act_of}
 use Rattle.interface_text.specs.Rules.{Reading, take, take_all, act_or_fault, beginning}
-use Rattle.interface_text.specs.declared.fault.Cause.{Cause}
-use Rattle.interface_text.specs.declared.token.Token.{Token}
-use Rattle.interface_text.specs.declared.token.Spot.{Spot}
-use Rattle.interface_text.specs.declared.expect.Act.{Act}
+use Rattle.interface_tokens.specs.declared.fault.Cause.{Cause}
+use Rattle.interface_tokens.specs.declared.token.Token.{Token}
+use Rattle.interface_tokens.specs.declared.token.Spot.{Spot}
+use Rattle.interface_tokens.specs.declared.expect.Act.{Act}
 use Rattle.interface_text.proofs.Residue.{residue}
 use Rattle.interface_text.proofs.Keeping.{acts, bound, fine, same}
 use Rattle.interface_text.proofs.Forward.{next_act}

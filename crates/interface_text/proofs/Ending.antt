@@ -4,14 +4,14 @@ use Rattle.std.specs.Prelude.{◌||◌, slice_get}
 use Rattle.interface_text.specs.Grammar.{Symbol, the_word, the_sign, a_name, a_number, declarations, parameters, group, more_groups, way, in_or_out, more_names, answer, raises, a_type, array, field, more_fields, productions, Derives, nothing, by_production, behind_first_line, tokens_in}
 use Rattle.interface_text.specs.Rules.{Reading, take, take_all, beginning}
 use Rattle.interface_text.specs.TypeRules.{Form, array_form, open_form, fields_form}
-use Rattle.interface_text.specs.declared.token.Spot.{Spot}
+use Rattle.interface_tokens.specs.declared.token.Spot.{Spot}
 use Rattle.interface_text.specs.declared.reader.Within.{Within}
 use Rattle.interface_text.specs.declared.reader.Within.TheVariants as within
-use Rattle.interface_text.specs.declared.expect.Expect.{Expect}
-use Rattle.interface_text.specs.declared.expect.Expect.TheVariants as expect
-use Rattle.interface_text.specs.declared.expect.AtTop.TheVariants as at_top
-use Rattle.interface_text.specs.declared.expect.AtProcedure.TheVariants as at_procedure
-use Rattle.interface_text.specs.declared.expect.AtType.TheVariants as at_type
+use Rattle.interface_tokens.specs.declared.expect.Expect.{Expect}
+use Rattle.interface_tokens.specs.declared.expect.Expect.TheVariants as expect
+use Rattle.interface_tokens.specs.declared.expect.AtTop.TheVariants as at_top
+use Rattle.interface_tokens.specs.declared.expect.AtProcedure.TheVariants as at_procedure
+use Rattle.interface_tokens.specs.declared.expect.AtType.TheVariants as at_type
 use Rattle.interface_text.proofs.Residue.{residue, to_come, behind_type}
 use Rattle.interface_text.proofs.Keeping.{bound, fine, same}
 use Rattle.interface_text.proofs.Ahead.{stepped_on}

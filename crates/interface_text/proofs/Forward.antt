@@ -3,34 +3,34 @@ use Rattle.std.proofs.Common.{◌≡◌, ◌⊎◌, inl, inr, ℕ, ◌==◌, tru
 use Rattle.std.specs.Prelude.{slice_get}
 use Rattle.std.proofs.lemmas.Bool.Decides.{nat_tests}
 use Rattle.interface_text.specs.Grammar.{Symbol, the_word, the_sign, a_name, a_number, declarations, parameters, group, more_groups, way, in_or_out, more_names, answer, raises, a_type, array, field, more_fields, productions, Derives, by_word, by_sign, by_name, by_number, by_production}
-use Rattle.interface_text.specs.Tokens.{words, code_of, sign_of}
-use Rattle.interface_text.specs.Syntax as syntax
-use Rattle.interface_text.specs.Syntax.{place_of, is_word, is_sign, name_of, number_of, only_word, only_sign, declaration, act_at_top, group as group_row, passing, more_parameters, more_groups as groups_row, raises as raises_row, more_raises, act_in_procedure, basic_of, begin_type, more_values, more_fields as fields_row, end_record, act_in_type, act_of}
+use Rattle.interface_tokens.specs.Tokens.{words, code_of, sign_of}
+use Rattle.interface_tokens.specs.Syntax as syntax
+use Rattle.interface_tokens.specs.Syntax.{place_of, is_word, is_sign, name_of, number_of, only_word, only_sign, declaration, act_at_top, group as group_row, passing, more_parameters, more_groups as groups_row, raises as raises_row, more_raises, act_in_procedure, basic_of, begin_type, more_values, more_fields as fields_row, end_record, act_in_type, act_of}
 use Rattle.interface_text.specs.TypeRules.{Form}
-use Rattle.interface_text.specs.declared.fault.Cause.{Cause}
-use Rattle.interface_text.specs.declared.token.Token.{Token}
-use Rattle.interface_text.specs.declared.token.Token.TheVariants as token
-use Rattle.interface_text.specs.declared.token.Word.{Word}
-use Rattle.interface_text.specs.declared.token.Word.TheVariants as word
-use Rattle.interface_text.specs.declared.token.Sign.{Sign}
-use Rattle.interface_text.specs.declared.token.Sign.TheVariants as sign
+use Rattle.interface_tokens.specs.declared.fault.Cause.{Cause}
+use Rattle.interface_tokens.specs.declared.token.Token.{Token}
+use Rattle.interface_tokens.specs.declared.token.Token.TheVariants as token
+use Rattle.interface_tokens.specs.declared.token.Word.{Word}
+use Rattle.interface_tokens.specs.declared.token.Word.TheVariants as word
+use Rattle.interface_tokens.specs.declared.token.Sign.{Sign}
+use Rattle.interface_tokens.specs.declared.token.Sign.TheVariants as sign
 use Rattle.interface_text.specs.declared.reader.Within.{Within}
-use Rattle.interface_text.specs.declared.expect.Expect.{Expect}
-use Rattle.interface_text.specs.declared.expect.Expect.TheVariants as expect
-use Rattle.interface_text.specs.declared.expect.AtTop.{AtTop}
-use Rattle.interface_text.specs.declared.expect.AtTop.TheVariants as at_top
-use Rattle.interface_text.specs.declared.expect.AtProcedure.{AtProcedure}
-use Rattle.interface_text.specs.declared.expect.AtProcedure.TheVariants as at_procedure
-use Rattle.interface_text.specs.declared.expect.AtType.{AtType}
-use Rattle.interface_text.specs.declared.expect.AtType.TheVariants as at_type
-use Rattle.interface_text.specs.declared.expect.Basic.TheVariants as basic
-use Rattle.interface_text.specs.declared.expect.Way.TheVariants as way_of
-use Rattle.interface_text.specs.declared.expect.Act.{Act}
-use Rattle.interface_text.specs.declared.expect.Act.TheVariants as act
-use Rattle.interface_text.specs.declared.expect.Declare.TheVariants as declare
-use Rattle.interface_text.specs.declared.expect.InProcedure.TheVariants as step
-use Rattle.interface_text.specs.declared.expect.TypeStep.TheVariants as part
-use Rattle.interface_text.specs.declared.expect.TypeEnd.TheVariants as close
+use Rattle.interface_tokens.specs.declared.expect.Expect.{Expect}
+use Rattle.interface_tokens.specs.declared.expect.Expect.TheVariants as expect
+use Rattle.interface_tokens.specs.declared.expect.AtTop.{AtTop}
+use Rattle.interface_tokens.specs.declared.expect.AtTop.TheVariants as at_top
+use Rattle.interface_tokens.specs.declared.expect.AtProcedure.{AtProcedure}
+use Rattle.interface_tokens.specs.declared.expect.AtProcedure.TheVariants as at_procedure
+use Rattle.interface_tokens.specs.declared.expect.AtType.{AtType}
+use Rattle.interface_tokens.specs.declared.expect.AtType.TheVariants as at_type
+use Rattle.interface_tokens.specs.declared.expect.Basic.TheVariants as basic
+use Rattle.interface_tokens.specs.declared.expect.Way.TheVariants as way_of
+use Rattle.interface_tokens.specs.declared.expect.Act.{Act}
+use Rattle.interface_tokens.specs.declared.expect.Act.TheVariants as act
+use Rattle.interface_tokens.specs.declared.expect.Declare.TheVariants as declare
+use Rattle.interface_tokens.specs.declared.expect.InProcedure.TheVariants as step
+use Rattle.interface_tokens.specs.declared.expect.TypeStep.TheVariants as part
+use Rattle.interface_tokens.specs.declared.expect.TypeEnd.TheVariants as close
 use Rattle.interface_text.proofs.Residue.{to_come, behind_act, at_the_top, in_the_procedure, in_the_type, behind_parameters, behind_answer, behind_group, behind_raises, of_group, of_fields, the_end, behind_type, behind_record}
 
 -- words and signs by their numbers

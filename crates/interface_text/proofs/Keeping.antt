@@ -1,10 +1,10 @@
 -- What each token does keeps to what is to come behind it.
 use Rattle.std.proofs.Common.{◌≡◌, ℕ, ◌+◌, Bool, true, false, cond, List, [], ◌∷◌, ◌++◌, Option, Some, None, Ok, Err, refl, ap, sym, subst, ◌∙◌}
 use Rattle.std.specs.Prelude.{nat_le, nat_lt, length}
-use Rattle.interface_text.specs.Outcome.{Outcome, ◌>>=◌}
+use Rattle.interface_tokens.specs.Outcome.{Outcome, ◌>>=◌}
 use Rattle.interface_text.specs.Kinds.{Kind, array, open_array, fields, row}
 use Rattle.interface_text.specs.Trees.{kind_of_basic}
-use Rattle.interface_text.specs.Names.{is_among, is_same}
+use Rattle.interface_tokens.specs.Names.{is_among, is_same}
 use Rattle.interface_text.specs.Meanings as meanings
 use Rattle.interface_text.specs.Meanings.{Sense, KnownType, a_procedure, an_exception, look_up, type_in, exception_in}
 use Rattle.interface_text.specs.Grammar.{Symbol, the_word, a_name, a_type, more_fields}
@@ -12,29 +12,29 @@ use Rattle.interface_text.specs.TypeRules as types
 use Rattle.interface_text.specs.TypeRules.{Form, array_form, open_form, fields_form, Group, Typing, Settling, whole, next, settle, settled_in, is_over, is_length, stop, then_expect, begin, basic, named, begin_values, add_value, end_values, set_length, open_ended, limited, set_limit, begin_record, innermost, the_group, add_field, type_fields, next_fields, end_record, step as type_step, end as type_end}
 use Rattle.interface_text.specs.Rules as rules
 use Rattle.interface_text.specs.Rules.{Reading, begin_exception, begin_procedure, declare_type, declare_exception, declare_procedure, end_interface, declare_of, add_parameter, raised, add_raise, end_procedure, step_of, typed_in, end_type, settle_of, stepped, ended, do_act}
-use Rattle.interface_text.specs.declared.token.Word.TheVariants as word
-use Rattle.interface_text.specs.declared.place.Place.{Place}
-use Rattle.interface_text.specs.declared.fault.Cause.{Cause}
-use Rattle.interface_text.specs.declared.fault.Cause.TheVariants as cause
+use Rattle.interface_tokens.specs.declared.token.Word.TheVariants as word
+use Rattle.interface_tokens.specs.declared.place.Place.{Place}
+use Rattle.interface_tokens.specs.declared.fault.Cause.{Cause}
+use Rattle.interface_tokens.specs.declared.fault.Cause.TheVariants as cause
 use Rattle.interface_text.specs.declared.reader.Within.{Within}
 use Rattle.interface_text.specs.declared.reader.Within.TheVariants as within
-use Rattle.interface_text.specs.declared.expect.AtTop.TheVariants as at_top
-use Rattle.interface_text.specs.declared.expect.AtProcedure.TheVariants as at_procedure
-use Rattle.interface_text.specs.declared.expect.AtType.{AtType}
-use Rattle.interface_text.specs.declared.expect.AtType.TheVariants as at_type
-use Rattle.interface_text.specs.declared.expect.Expect.TheVariants as expect
-use Rattle.interface_text.specs.declared.expect.Way.{Way}
-use Rattle.interface_text.specs.declared.expect.Way.TheVariants as way_of
-use Rattle.interface_text.specs.declared.expect.Act.{Act}
-use Rattle.interface_text.specs.declared.expect.Act.TheVariants as act
-use Rattle.interface_text.specs.declared.expect.Declare.{Declare}
-use Rattle.interface_text.specs.declared.expect.Declare.TheVariants as declare
-use Rattle.interface_text.specs.declared.expect.InProcedure.{InProcedure}
-use Rattle.interface_text.specs.declared.expect.InProcedure.TheVariants as step
-use Rattle.interface_text.specs.declared.expect.TypeStep.{TypeStep}
-use Rattle.interface_text.specs.declared.expect.TypeStep.TheVariants as part
-use Rattle.interface_text.specs.declared.expect.TypeEnd.{TypeEnd}
-use Rattle.interface_text.specs.declared.expect.TypeEnd.TheVariants as close
+use Rattle.interface_tokens.specs.declared.expect.AtTop.TheVariants as at_top
+use Rattle.interface_tokens.specs.declared.expect.AtProcedure.TheVariants as at_procedure
+use Rattle.interface_tokens.specs.declared.expect.AtType.{AtType}
+use Rattle.interface_tokens.specs.declared.expect.AtType.TheVariants as at_type
+use Rattle.interface_tokens.specs.declared.expect.Expect.TheVariants as expect
+use Rattle.interface_tokens.specs.declared.expect.Way.{Way}
+use Rattle.interface_tokens.specs.declared.expect.Way.TheVariants as way_of
+use Rattle.interface_tokens.specs.declared.expect.Act.{Act}
+use Rattle.interface_tokens.specs.declared.expect.Act.TheVariants as act
+use Rattle.interface_tokens.specs.declared.expect.Declare.{Declare}
+use Rattle.interface_tokens.specs.declared.expect.Declare.TheVariants as declare
+use Rattle.interface_tokens.specs.declared.expect.InProcedure.{InProcedure}
+use Rattle.interface_tokens.specs.declared.expect.InProcedure.TheVariants as step
+use Rattle.interface_tokens.specs.declared.expect.TypeStep.{TypeStep}
+use Rattle.interface_tokens.specs.declared.expect.TypeStep.TheVariants as part
+use Rattle.interface_tokens.specs.declared.expect.TypeEnd.{TypeEnd}
+use Rattle.interface_tokens.specs.declared.expect.TypeEnd.TheVariants as close
 use Rattle.interface_text.proofs.Residue.{residue, in_the_type, behind_act, behind_declare, behind_way, behind_step, behind_part, behind_end, behind_type, behind_outermost, behind_record, behind_limit, of_fields, of_group, of_raises}
 
 -- Answers that are Ok
@@ -52,12 +52,12 @@ module _ {X : Type 0} where
   not_bad e y h = cc
 
   -- no fault where the test is false
-  unless : (b : Bool) (e : Place × Cause) (o : Outcome X) (y : X) → cond b (bad e) o ≡ fine y → o ≡ fine y
+  pub unless : (b : Bool) (e : Place × Cause) (o : Outcome X) (y : X) → cond b (bad e) o ≡ fine y → o ≡ fine y
   unless true e o y h = absurd (not_bad e y h)
   unless false e o y h = h
 
   -- no fault where the test is true
-  where_so : (b : Bool) (e : Place × Cause) (o : Outcome X) (y : X) → cond b o (bad e) ≡ fine y → o ≡ fine y
+  pub where_so : (b : Bool) (e : Place × Cause) (o : Outcome X) (y : X) → cond b o (bad e) ≡ fine y → o ≡ fine y
   where_so true e o y h = h
   where_so false e o y h = absurd (not_bad e y h)
 

@@ -2,7 +2,7 @@
 use Rattle.std.proofs.Common.{◌≡◌, ℕ, true, false, cond, List, [], ◌∷◌, Some, refl, ap}
 use Rattle.std.specs.Prelude.{map, option_map}
 use Rattle.std.specs.Map.{lookup}
-use Rattle.interface_text.specs.Names.{is_same}
+use Rattle.interface_tokens.specs.Names.{is_same}
 use Rattle.indexmap.specs.IndexMap.{insert_entry}
 use Rattle.interface_text.specs.Meanings.{Sense, declare, look_up}
 use Rattle.interface_text.specs.Senses.{sense_of, named_sense}

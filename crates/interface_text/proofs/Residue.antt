@@ -3,30 +3,30 @@ use Rattle.std.specs.Prelude.{List, [], ◌∷◌}
 use Rattle.interface_text.specs.Grammar.{Symbol, the_word, the_sign, a_name, a_number, declarations, parameters, group, more_groups, in_or_out, more_names, answer, raises, a_type, array, more_fields}
 use Rattle.interface_text.specs.Rules.{Reading}
 use Rattle.interface_text.specs.TypeRules.{Form, array_form, open_form, fields_form}
-use Rattle.interface_text.specs.declared.token.Word.TheVariants as word
-use Rattle.interface_text.specs.declared.token.Sign.TheVariants as sign
+use Rattle.interface_tokens.specs.declared.token.Word.TheVariants as word
+use Rattle.interface_tokens.specs.declared.token.Sign.TheVariants as sign
 use Rattle.interface_text.specs.declared.reader.Within.{Within}
 use Rattle.interface_text.specs.declared.reader.Within.TheVariants as within
-use Rattle.interface_text.specs.declared.expect.Expect.{Expect}
-use Rattle.interface_text.specs.declared.expect.Expect.TheVariants as expect
-use Rattle.interface_text.specs.declared.expect.AtTop.{AtTop}
-use Rattle.interface_text.specs.declared.expect.AtTop.TheVariants as at_top
-use Rattle.interface_text.specs.declared.expect.AtProcedure.{AtProcedure}
-use Rattle.interface_text.specs.declared.expect.AtProcedure.TheVariants as at_procedure
-use Rattle.interface_text.specs.declared.expect.AtType.{AtType}
-use Rattle.interface_text.specs.declared.expect.AtType.TheVariants as at_type
-use Rattle.interface_text.specs.declared.expect.Way.{Way}
-use Rattle.interface_text.specs.declared.expect.Way.TheVariants as way_of
-use Rattle.interface_text.specs.declared.expect.Act.{Act}
-use Rattle.interface_text.specs.declared.expect.Act.TheVariants as act
-use Rattle.interface_text.specs.declared.expect.Declare.{Declare}
-use Rattle.interface_text.specs.declared.expect.Declare.TheVariants as declare
-use Rattle.interface_text.specs.declared.expect.InProcedure.{InProcedure}
-use Rattle.interface_text.specs.declared.expect.InProcedure.TheVariants as step
-use Rattle.interface_text.specs.declared.expect.TypeStep.{TypeStep}
-use Rattle.interface_text.specs.declared.expect.TypeStep.TheVariants as part
-use Rattle.interface_text.specs.declared.expect.TypeEnd.{TypeEnd}
-use Rattle.interface_text.specs.declared.expect.TypeEnd.TheVariants as close_of
+use Rattle.interface_tokens.specs.declared.expect.Expect.{Expect}
+use Rattle.interface_tokens.specs.declared.expect.Expect.TheVariants as expect
+use Rattle.interface_tokens.specs.declared.expect.AtTop.{AtTop}
+use Rattle.interface_tokens.specs.declared.expect.AtTop.TheVariants as at_top
+use Rattle.interface_tokens.specs.declared.expect.AtProcedure.{AtProcedure}
+use Rattle.interface_tokens.specs.declared.expect.AtProcedure.TheVariants as at_procedure
+use Rattle.interface_tokens.specs.declared.expect.AtType.{AtType}
+use Rattle.interface_tokens.specs.declared.expect.AtType.TheVariants as at_type
+use Rattle.interface_tokens.specs.declared.expect.Way.{Way}
+use Rattle.interface_tokens.specs.declared.expect.Way.TheVariants as way_of
+use Rattle.interface_tokens.specs.declared.expect.Act.{Act}
+use Rattle.interface_tokens.specs.declared.expect.Act.TheVariants as act
+use Rattle.interface_tokens.specs.declared.expect.Declare.{Declare}
+use Rattle.interface_tokens.specs.declared.expect.Declare.TheVariants as declare
+use Rattle.interface_tokens.specs.declared.expect.InProcedure.{InProcedure}
+use Rattle.interface_tokens.specs.declared.expect.InProcedure.TheVariants as step
+use Rattle.interface_tokens.specs.declared.expect.TypeStep.{TypeStep}
+use Rattle.interface_tokens.specs.declared.expect.TypeStep.TheVariants as part
+use Rattle.interface_tokens.specs.declared.expect.TypeEnd.{TypeEnd}
+use Rattle.interface_tokens.specs.declared.expect.TypeEnd.TheVariants as close_of
 
 abbrev pub the_end : List Symbol
 the_end = declarations ∷ the_word word.End ∷ a_name ∷ the_sign sign.FullStop ∷ []

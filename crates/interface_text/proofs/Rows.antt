@@ -1,34 +1,34 @@
 -- Each row of the syntax keeps to the grammar: what is to come before its token derives the token and what is to come behind it.
 use Rattle.std.proofs.Common.{◌≡◌, ◌⊎◌, inl, inr, ℕ, Bool, true, false, cond, List, [], ◌∷◌, ◌++◌, Option, Some, None, Result, Ok, Err, refl, sym, subst}
 use Rattle.std.specs.Prelude.{slice_get, ◌||◌}
-use Rattle.interface_text.specs.Outcome.{◌>>=◌}
+use Rattle.interface_tokens.specs.Outcome.{◌>>=◌}
 use Rattle.interface_text.specs.Grammar.{Symbol, the_word, the_sign, a_name, a_number, declarations, parameters, group, more_groups, way, in_or_out, more_names, answer, raises, a_type, array, field, more_fields, productions, Derives, by_word, by_sign, by_name, by_number, by_production}
-use Rattle.interface_text.specs.Syntax as syntax
-use Rattle.interface_text.specs.Syntax.{is_word, is_sign, name_of, number_of, only_word, only_sign, declaration, act_at_top, group as group_row, passing, more_parameters, more_groups as groups_row, raises as raises_row, more_raises, act_in_procedure, basic_of, basic_or_name, begin_type, more_values, more_fields as fields_row, end_record, act_in_type, act_of}
+use Rattle.interface_tokens.specs.Syntax as syntax
+use Rattle.interface_tokens.specs.Syntax.{is_word, is_sign, name_of, number_of, only_word, only_sign, declaration, act_at_top, group as group_row, passing, more_parameters, more_groups as groups_row, raises as raises_row, more_raises, act_in_procedure, basic_of, basic_or_name, begin_type, more_values, more_fields as fields_row, end_record, act_in_type, act_of}
 use Rattle.interface_text.specs.TypeRules.{Form}
-use Rattle.interface_text.specs.declared.fault.Cause.{Cause}
-use Rattle.interface_text.specs.declared.token.Token.{Token}
-use Rattle.interface_text.specs.declared.token.Word.{Word}
-use Rattle.interface_text.specs.declared.token.Word.TheVariants as word
-use Rattle.interface_text.specs.declared.token.Sign.{Sign}
-use Rattle.interface_text.specs.declared.token.Sign.TheVariants as sign
+use Rattle.interface_tokens.specs.declared.fault.Cause.{Cause}
+use Rattle.interface_tokens.specs.declared.token.Token.{Token}
+use Rattle.interface_tokens.specs.declared.token.Word.{Word}
+use Rattle.interface_tokens.specs.declared.token.Word.TheVariants as word
+use Rattle.interface_tokens.specs.declared.token.Sign.{Sign}
+use Rattle.interface_tokens.specs.declared.token.Sign.TheVariants as sign
 use Rattle.interface_text.specs.declared.reader.Within.{Within}
-use Rattle.interface_text.specs.declared.expect.Expect.{Expect}
-use Rattle.interface_text.specs.declared.expect.Expect.TheVariants as expect
-use Rattle.interface_text.specs.declared.expect.AtTop.{AtTop}
-use Rattle.interface_text.specs.declared.expect.AtTop.TheVariants as at_top
-use Rattle.interface_text.specs.declared.expect.AtProcedure.{AtProcedure}
-use Rattle.interface_text.specs.declared.expect.AtProcedure.TheVariants as at_procedure
-use Rattle.interface_text.specs.declared.expect.AtType.{AtType}
-use Rattle.interface_text.specs.declared.expect.AtType.TheVariants as at_type
-use Rattle.interface_text.specs.declared.expect.Basic.{Basic}
-use Rattle.interface_text.specs.declared.expect.Way.TheVariants as way_of
-use Rattle.interface_text.specs.declared.expect.Act.{Act}
-use Rattle.interface_text.specs.declared.expect.Act.TheVariants as act
-use Rattle.interface_text.specs.declared.expect.Declare.TheVariants as declare
-use Rattle.interface_text.specs.declared.expect.InProcedure.TheVariants as step
-use Rattle.interface_text.specs.declared.expect.TypeStep.TheVariants as part
-use Rattle.interface_text.specs.declared.expect.TypeEnd.TheVariants as close
+use Rattle.interface_tokens.specs.declared.expect.Expect.{Expect}
+use Rattle.interface_tokens.specs.declared.expect.Expect.TheVariants as expect
+use Rattle.interface_tokens.specs.declared.expect.AtTop.{AtTop}
+use Rattle.interface_tokens.specs.declared.expect.AtTop.TheVariants as at_top
+use Rattle.interface_tokens.specs.declared.expect.AtProcedure.{AtProcedure}
+use Rattle.interface_tokens.specs.declared.expect.AtProcedure.TheVariants as at_procedure
+use Rattle.interface_tokens.specs.declared.expect.AtType.{AtType}
+use Rattle.interface_tokens.specs.declared.expect.AtType.TheVariants as at_type
+use Rattle.interface_tokens.specs.declared.expect.Basic.{Basic}
+use Rattle.interface_tokens.specs.declared.expect.Way.TheVariants as way_of
+use Rattle.interface_tokens.specs.declared.expect.Act.{Act}
+use Rattle.interface_tokens.specs.declared.expect.Act.TheVariants as act
+use Rattle.interface_tokens.specs.declared.expect.Declare.TheVariants as declare
+use Rattle.interface_tokens.specs.declared.expect.InProcedure.TheVariants as step
+use Rattle.interface_tokens.specs.declared.expect.TypeStep.TheVariants as part
+use Rattle.interface_tokens.specs.declared.expect.TypeEnd.TheVariants as close
 use Rattle.interface_text.proofs.Residue.{to_come, behind_act, at_the_top, in_the_procedure, in_the_type, behind_answer, behind_group, of_group, of_raises, of_values, of_fields, the_end, behind_type, behind_record}
 
 -- what a row gives, where it gives an act

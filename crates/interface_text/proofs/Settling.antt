@@ -3,9 +3,9 @@ use Rattle.std.proofs.Common.{◌≡◌, ◌++◌, ℕ, List, [], ◌∷◌, ap,
 use Rattle.std.specs.Prelude.{Option, Some, replicate}
 use Rattle.interface_text.specs.Kinds.{Kind, array, open_array}
 use Rattle.interface_text.specs.TypeRules.{Form, array_form, open_form, fields_form, Group, Typing, Settling, settled_in, limited, whole, next}
-use Rattle.interface_text.specs.declared.place.Place.{Place}
-use Rattle.interface_text.specs.declared.expect.Expect.TheVariants as expect
-use Rattle.interface_text.specs.declared.expect.AtType.TheVariants as at_type
+use Rattle.interface_tokens.specs.declared.place.Place.{Place}
+use Rattle.interface_tokens.specs.declared.expect.Expect.TheVariants as expect
+use Rattle.interface_tokens.specs.declared.expect.AtType.TheVariants as at_type
 
 pub settled_whole : (t : Typing) (forms : List Form) (k : Kind) → forms ≡ [] → settled_in t forms k ≡ (record t { forms = [] }, whole k)
 unfolding settled_in

@@ -1,26 +1,26 @@
 -- What a text declares is in the grammar.
 use Rattle.std.proofs.Common.{◌≡◌, ℕ, Bool, true, false, cond, List, [], ◌∷◌, Result, Ok, Err, refl, ap, sym, subst}
 use Rattle.std.specs.Prelude.{if◌then◌else◌}
-use Rattle.interface_text.specs.Outcome.{Outcome, ◌>>=◌}
+use Rattle.interface_tokens.specs.Outcome.{Outcome, ◌>>=◌}
 use Rattle.interface_text.specs.Interfaces.{DeclaredInterface}
 use Rattle.interface_text.specs.Grammar.{Symbol, interface, Derives, nothing, by_word, by_sign, by_name, tokens_in}
-use Rattle.interface_text.specs.Syntax.{act_of, is_word, is_sign, name_of}
-use Rattle.interface_text.specs.Tokens.{Tokens, tokens_of}
+use Rattle.interface_tokens.specs.Syntax.{act_of, is_word, is_sign, name_of}
+use Rattle.interface_tokens.specs.Tokens.{Tokens, tokens_of}
 use Rattle.interface_text.specs.Rules.{Reading, take, take_all, act_or_fault, at_end, finish, beginning}
 use Rattle.interface_text.specs.Texts.{Declares, first, first_line, at_place, read_text}
-use Rattle.interface_text.specs.declared.place.Place.{Place}
-use Rattle.interface_text.specs.declared.fault.Cause.{Cause}
-use Rattle.interface_text.specs.declared.fault.Cause.TheVariants as cause
-use Rattle.interface_text.specs.declared.token.Word.TheVariants as word
-use Rattle.interface_text.specs.declared.token.Sign.TheVariants as sign
-use Rattle.interface_text.specs.declared.token.Token.{Token}
-use Rattle.interface_text.specs.declared.token.Spot.{Spot}
-use Rattle.interface_text.specs.declared.scanner.Ending.{Ending}
-use Rattle.interface_text.specs.declared.scanner.Ending.TheVariants as ending
-use Rattle.interface_text.specs.declared.expect.Expect.{Expect}
-use Rattle.interface_text.specs.declared.expect.Expect.TheVariants as expect
-use Rattle.interface_text.specs.declared.expect.AtTop.TheVariants as at_top
-use Rattle.interface_text.specs.declared.expect.Act.{Act}
+use Rattle.interface_tokens.specs.declared.place.Place.{Place}
+use Rattle.interface_tokens.specs.declared.fault.Cause.{Cause}
+use Rattle.interface_tokens.specs.declared.fault.Cause.TheVariants as cause
+use Rattle.interface_tokens.specs.declared.token.Word.TheVariants as word
+use Rattle.interface_tokens.specs.declared.token.Sign.TheVariants as sign
+use Rattle.interface_tokens.specs.declared.token.Token.{Token}
+use Rattle.interface_tokens.specs.declared.token.Spot.{Spot}
+use Rattle.interface_tokens.specs.declared.scanner.Ending.{Ending}
+use Rattle.interface_tokens.specs.declared.scanner.Ending.TheVariants as ending
+use Rattle.interface_tokens.specs.declared.expect.Expect.{Expect}
+use Rattle.interface_tokens.specs.declared.expect.Expect.TheVariants as expect
+use Rattle.interface_tokens.specs.declared.expect.AtTop.TheVariants as at_top
+use Rattle.interface_tokens.specs.declared.expect.Act.{Act}
 use Rattle.interface_text.proofs.Residue.{residue, to_come, the_end}
 use Rattle.interface_text.proofs.Rows.{row_derives}
 use Rattle.interface_text.proofs.Keeping.{acts, bound, fine, bad, not_bad, same}

@@ -1,12 +1,12 @@
 -- What is told of a fault.
 use Rattle.std.proofs.Common.{◌≡◌, ◌<◌, ℕ, List, arith, ap}
 use Rattle.interface_text.specs.Faults.{number_of, told}
-use Rattle.interface_text.specs.Outcome.{Fails}
+use Rattle.interface_tokens.specs.Outcome.{Fails}
 use Rattle.interface_text.specs.Texts.{IsFirstFault, read_text}
-use Rattle.interface_text.specs.declared.fault.Cause.{Cause}
-use Rattle.interface_text.specs.declared.fault.Cause.TheVariants as cause
-use Rattle.interface_text.specs.declared.fault.Stop.{Stop}
-use Rattle.interface_text.specs.declared.fault.Stop.TheVariants.{Memory, Fault}
+use Rattle.interface_tokens.specs.declared.fault.Cause.{Cause}
+use Rattle.interface_tokens.specs.declared.fault.Cause.TheVariants as cause
+use Rattle.interface_tokens.specs.declared.fault.Stop.{Stop}
+use Rattle.interface_tokens.specs.declared.fault.Stop.TheVariants.{Memory, Fault}
 use Rattle.interface_text.specs.declared.fault.TextFault.{TextFault}
 
 positive : (c : Cause) → 0 < number_of c

@@ -1,6 +1,6 @@
 -- What adding a value to an enumeration does.
 use Rattle.std.specs.Prelude.{ℕ, ◌≡◌, ◌≤◌, ◌<◌, ◌++◌, List, [], ◌∷◌, length, true, false}
-use Rattle.interface_text.specs.Names.{is_among}
+use Rattle.interface_tokens.specs.Names.{is_among}
 use Rattle.interface_text.specs.declared.values.Added.{Added}
 use Rattle.interface_text.specs.declared.values.Added.TheVariants as added
 

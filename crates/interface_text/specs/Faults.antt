@@ -1,9 +1,9 @@
 -- The numbers of faults, and what is told of them.
 use Rattle.std.specs.Prelude.{ℕ}
-use Rattle.interface_text.specs.declared.fault.Cause.{Cause}
-use Rattle.interface_text.specs.declared.fault.Cause.TheVariants as cause
-use Rattle.interface_text.specs.declared.fault.Stop.{Stop}
-use Rattle.interface_text.specs.declared.fault.Stop.TheVariants.{Memory, Fault}
+use Rattle.interface_tokens.specs.declared.fault.Cause.{Cause}
+use Rattle.interface_tokens.specs.declared.fault.Cause.TheVariants as cause
+use Rattle.interface_tokens.specs.declared.fault.Stop.{Stop}
+use Rattle.interface_tokens.specs.declared.fault.Stop.TheVariants.{Memory, Fault}
 use Rattle.interface_text.specs.declared.fault.TextFault.{TextFault}
 
 abbrev pub number_of : Cause → ℕ

@@ -1,12 +1,12 @@
 -- The grammar, as productions, and which tokens derive from it. It knows nothing of names' meanings and limits.
 use Rattle.std.specs.Prelude.{ℕ, ◌≡◌, List, [], ◌∷◌, ◌++◌, true, Some, Ok, slice_get, map}
-use Rattle.interface_text.specs.Syntax.{is_word, is_sign, name_of, number_of}
-use Rattle.interface_text.specs.declared.token.Word.{Word}
-use Rattle.interface_text.specs.declared.token.Word.TheVariants as word
-use Rattle.interface_text.specs.declared.token.Sign.{Sign}
-use Rattle.interface_text.specs.declared.token.Sign.TheVariants as sign
-use Rattle.interface_text.specs.declared.token.Token.{Token}
-use Rattle.interface_text.specs.declared.token.Spot.{Spot}
+use Rattle.interface_tokens.specs.Syntax.{is_word, is_sign, name_of, number_of}
+use Rattle.interface_tokens.specs.declared.token.Word.{Word}
+use Rattle.interface_tokens.specs.declared.token.Word.TheVariants as word
+use Rattle.interface_tokens.specs.declared.token.Sign.{Sign}
+use Rattle.interface_tokens.specs.declared.token.Sign.TheVariants as sign
+use Rattle.interface_tokens.specs.declared.token.Token.{Token}
+use Rattle.interface_tokens.specs.declared.token.Spot.{Spot}
 
 -- what the grammar is made of: words, signs, names and numbers, and the parts that have productions
 pub data Symbol : Type 0 where

@@ -2,7 +2,7 @@
 use Rattle.std.specs.Prelude.{ℕ, List, [], ◌∷◌, Option, Some, None, if◌then◌else◌}
 use Rattle.std.specs.Map.{lookup}
 use Rattle.interface_text.specs.Kinds.{Kind}
-use Rattle.interface_text.specs.Names.{is_same}
+use Rattle.interface_tokens.specs.Names.{is_same}
 
 -- a type that a name stands for: the type, its depth and its parts
 pub record KnownType : Type 0 where

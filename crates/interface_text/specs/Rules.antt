@@ -1,36 +1,36 @@
 -- Interfaces as they are read: what each token does behind `INTERFACE name ;`, with the rules of names and the limits. One row an act.
 use Rattle.std.specs.Prelude.{ℕ, ◌+◌, Bool, nat_le, is_some, List, [], ◌∷◌, ◌++◌, length, replicate, Option, Some, None, Result, Ok, Err, if◌then◌else◌}
-use Rattle.interface_text.specs.Names.{is_among, is_same}
-use Rattle.interface_text.specs.Outcome.{Outcome, ◌>>=◌}
+use Rattle.interface_tokens.specs.Names.{is_among, is_same}
+use Rattle.interface_tokens.specs.Outcome.{Outcome, ◌>>=◌}
 use Rattle.interface_text.specs.Kinds.{Kind}
 use Rattle.interface_text.specs.Interfaces.{DeclaredProcedure, DeclaredInterface}
 use Rattle.interface_text.specs.Meanings.{Sense, a_type, an_exception, a_procedure, look_up, exception_in}
 use Rattle.interface_text.specs.Meanings as meanings
 use Rattle.interface_text.specs.TypeRules.{Typing, Settling, whole, next, untyped, restarted, stopped, is_over, one_more}
 use Rattle.interface_text.specs.TypeRules as types
-use Rattle.interface_text.specs.Syntax.{act_of}
-use Rattle.interface_text.specs.declared.place.Place.{Place}
-use Rattle.interface_text.specs.declared.fault.Cause.{Cause}
-use Rattle.interface_text.specs.declared.fault.Cause.TheVariants as cause
-use Rattle.interface_text.specs.declared.token.Spot.{Spot}
-use Rattle.interface_text.specs.declared.scanner.Ending.{Ending}
-use Rattle.interface_text.specs.declared.scanner.Ending.TheVariants as ending
-use Rattle.interface_text.specs.declared.expect.Expect.{Expect}
-use Rattle.interface_text.specs.declared.expect.Expect.TheVariants as expect
-use Rattle.interface_text.specs.declared.expect.AtTop.{AtTop}
-use Rattle.interface_text.specs.declared.expect.AtTop.TheVariants as at_top
-use Rattle.interface_text.specs.declared.expect.AtProcedure.{AtProcedure}
-use Rattle.interface_text.specs.declared.expect.AtProcedure.TheVariants as at_procedure
-use Rattle.interface_text.specs.declared.expect.AtType.{AtType}
-use Rattle.interface_text.specs.declared.expect.AtType.TheVariants as at_type
-use Rattle.interface_text.specs.declared.expect.Way.{Way}
-use Rattle.interface_text.specs.declared.expect.Way.TheVariants as way_of
-use Rattle.interface_text.specs.declared.expect.Act.{Act}
-use Rattle.interface_text.specs.declared.expect.Act.TheVariants as act
-use Rattle.interface_text.specs.declared.expect.Declare.{Declare}
-use Rattle.interface_text.specs.declared.expect.Declare.TheVariants as declare
-use Rattle.interface_text.specs.declared.expect.InProcedure.{InProcedure}
-use Rattle.interface_text.specs.declared.expect.InProcedure.TheVariants as step
+use Rattle.interface_tokens.specs.Syntax.{act_of}
+use Rattle.interface_tokens.specs.declared.place.Place.{Place}
+use Rattle.interface_tokens.specs.declared.fault.Cause.{Cause}
+use Rattle.interface_tokens.specs.declared.fault.Cause.TheVariants as cause
+use Rattle.interface_tokens.specs.declared.token.Spot.{Spot}
+use Rattle.interface_tokens.specs.declared.scanner.Ending.{Ending}
+use Rattle.interface_tokens.specs.declared.scanner.Ending.TheVariants as ending
+use Rattle.interface_tokens.specs.declared.expect.Expect.{Expect}
+use Rattle.interface_tokens.specs.declared.expect.Expect.TheVariants as expect
+use Rattle.interface_tokens.specs.declared.expect.AtTop.{AtTop}
+use Rattle.interface_tokens.specs.declared.expect.AtTop.TheVariants as at_top
+use Rattle.interface_tokens.specs.declared.expect.AtProcedure.{AtProcedure}
+use Rattle.interface_tokens.specs.declared.expect.AtProcedure.TheVariants as at_procedure
+use Rattle.interface_tokens.specs.declared.expect.AtType.{AtType}
+use Rattle.interface_tokens.specs.declared.expect.AtType.TheVariants as at_type
+use Rattle.interface_tokens.specs.declared.expect.Way.{Way}
+use Rattle.interface_tokens.specs.declared.expect.Way.TheVariants as way_of
+use Rattle.interface_tokens.specs.declared.expect.Act.{Act}
+use Rattle.interface_tokens.specs.declared.expect.Act.TheVariants as act
+use Rattle.interface_tokens.specs.declared.expect.Declare.{Declare}
+use Rattle.interface_tokens.specs.declared.expect.Declare.TheVariants as declare
+use Rattle.interface_tokens.specs.declared.expect.InProcedure.{InProcedure}
+use Rattle.interface_tokens.specs.declared.expect.InProcedure.TheVariants as step
 use Rattle.interface_text.specs.declared.reader.Within.{Within}
 use Rattle.interface_text.specs.declared.reader.Within.TheVariants as within
 

@@ -1,21 +1,21 @@
 -- What an interface text declares, and its first fault.
 use Rattle.std.specs.Prelude.{ℕ, ◌≡◌, List, [], ◌∷◌, Result, Ok, Err, if◌then◌else◌}
-use Rattle.interface_text.specs.Outcome.{Outcome, ◌>>=◌}
+use Rattle.interface_tokens.specs.Outcome.{Outcome, ◌>>=◌}
 use Rattle.interface_text.specs.Interfaces.{DeclaredInterface}
-use Rattle.interface_text.specs.Tokens.{Tokens, tokens_of}
-use Rattle.interface_text.specs.Syntax.{is_word, is_sign, name_of}
+use Rattle.interface_tokens.specs.Tokens.{Tokens, tokens_of}
+use Rattle.interface_tokens.specs.Syntax.{is_word, is_sign, name_of}
 use Rattle.interface_text.specs.Rules.{beginning, take_all, finish}
 use Rattle.interface_text.specs.Faults.{told}
-use Rattle.interface_text.specs.declared.fault.Stop.TheVariants.{Fault}
+use Rattle.interface_tokens.specs.declared.fault.Stop.TheVariants.{Fault}
 use Rattle.interface_text.specs.declared.fault.TextFault.{TextFault}
-use Rattle.interface_text.specs.declared.place.Place.{Place}
-use Rattle.interface_text.specs.declared.fault.Cause.{Cause}
-use Rattle.interface_text.specs.declared.fault.Cause.TheVariants as cause
-use Rattle.interface_text.specs.declared.token.Word.TheVariants as word
-use Rattle.interface_text.specs.declared.token.Sign.TheVariants as sign
-use Rattle.interface_text.specs.declared.token.Spot.{Spot}
-use Rattle.interface_text.specs.declared.scanner.Ending.{Ending}
-use Rattle.interface_text.specs.declared.scanner.Ending.TheVariants as ending
+use Rattle.interface_tokens.specs.declared.place.Place.{Place}
+use Rattle.interface_tokens.specs.declared.fault.Cause.{Cause}
+use Rattle.interface_tokens.specs.declared.fault.Cause.TheVariants as cause
+use Rattle.interface_tokens.specs.declared.token.Word.TheVariants as word
+use Rattle.interface_tokens.specs.declared.token.Sign.TheVariants as sign
+use Rattle.interface_tokens.specs.declared.token.Spot.{Spot}
+use Rattle.interface_tokens.specs.declared.scanner.Ending.{Ending}
+use Rattle.interface_tokens.specs.declared.scanner.Ending.TheVariants as ending
 
 -- the fault of a text that ends where there should be a token
 abbrev pub cause_of : Ending → Cause

@@ -2,8 +2,8 @@
 use Rattle.std.specs.Prelude.{map}
 use Rattle.std.specs.declared.alloc.Global.{Global}
 use Rattle.std.specs.declared.rc.Rc.{Rc}
-use Rattle.interface_text.specs.declared.expect.Basic.{Basic}
-use Rattle.interface_text.specs.declared.expect.Basic.TheVariants as basic
+use Rattle.interface_tokens.specs.declared.expect.Basic.{Basic}
+use Rattle.interface_tokens.specs.declared.expect.Basic.TheVariants as basic
 use Rattle.interface_text.specs.declared.tree.Tree.{Tree}
 use Rattle.interface_text.specs.declared.tree.Tree.TheOpen.{Tree-F}
 use Rattle.interface_text.specs.declared.tree.Tree.TheOpen as tree

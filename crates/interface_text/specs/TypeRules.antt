@@ -1,23 +1,23 @@
 -- Types as they are read: what each token of a type does, and its limits.
 use Rattle.std.specs.Prelude.{ℕ, ◌+◌, ◌*◌, ◌==◌, Bool, nat_le, nat_lt, ◌&&◌, min, max, List, [], ◌∷◌, ◌++◌, length, replicate, Option, Some, None, Ok, Err, if◌then◌else◌}
-use Rattle.interface_text.specs.Names.{is_among}
-use Rattle.interface_text.specs.Outcome.{Outcome, ◌>>=◌}
+use Rattle.interface_tokens.specs.Names.{is_among}
+use Rattle.interface_tokens.specs.Outcome.{Outcome, ◌>>=◌}
 use Rattle.interface_text.specs.Kinds.{Kind, choice, array, open_array, fields, row}
 use Rattle.interface_text.specs.Trees.{kind_of_basic}
 use Rattle.interface_text.specs.Meanings.{KnownType, Sense, look_up, type_in}
-use Rattle.interface_text.specs.Tokens.{max_length}
-use Rattle.interface_text.specs.declared.place.Place.{Place}
-use Rattle.interface_text.specs.declared.fault.Cause.{Cause}
-use Rattle.interface_text.specs.declared.fault.Cause.TheVariants as cause
-use Rattle.interface_text.specs.declared.expect.Expect.{Expect}
-use Rattle.interface_text.specs.declared.expect.Expect.TheVariants as expect
-use Rattle.interface_text.specs.declared.expect.AtType.{AtType}
-use Rattle.interface_text.specs.declared.expect.AtType.TheVariants as at_type
-use Rattle.interface_text.specs.declared.expect.TypeStep.{TypeStep}
-use Rattle.interface_text.specs.declared.expect.TypeStep.TheVariants as part
-use Rattle.interface_text.specs.declared.expect.TypeEnd.{TypeEnd}
-use Rattle.interface_text.specs.declared.expect.TypeEnd.TheVariants as close
-use Rattle.interface_text.specs.declared.expect.Basic.{Basic}
+use Rattle.interface_tokens.specs.Tokens.{max_length}
+use Rattle.interface_tokens.specs.declared.place.Place.{Place}
+use Rattle.interface_tokens.specs.declared.fault.Cause.{Cause}
+use Rattle.interface_tokens.specs.declared.fault.Cause.TheVariants as cause
+use Rattle.interface_tokens.specs.declared.expect.Expect.{Expect}
+use Rattle.interface_tokens.specs.declared.expect.Expect.TheVariants as expect
+use Rattle.interface_tokens.specs.declared.expect.AtType.{AtType}
+use Rattle.interface_tokens.specs.declared.expect.AtType.TheVariants as at_type
+use Rattle.interface_tokens.specs.declared.expect.TypeStep.{TypeStep}
+use Rattle.interface_tokens.specs.declared.expect.TypeStep.TheVariants as part
+use Rattle.interface_tokens.specs.declared.expect.TypeEnd.{TypeEnd}
+use Rattle.interface_tokens.specs.declared.expect.TypeEnd.TheVariants as close
+use Rattle.interface_tokens.specs.declared.expect.Basic.{Basic}
 
 abbrev pub max_depth : ℕ
 max_depth = 16

@@ -3,17 +3,16 @@ ghost use Rattle.std.specs.Prelude.{◌≡◌, ◌++◌, OnOk, IfOk, map, not, r
 ghost use Rattle.std.specs.Bool.{OnTrue};
 ghost use Rattle.interface_text.specs.Kinds.{kind_of};
 ghost use Rattle.interface_text.specs.Trees.{kind_of_tree};
-ghost use Rattle.interface_text.specs.Names.{is_among};
+ghost use Rattle.interface_tokens.specs.Names.{is_among};
 ghost use Rattle.interface_text.specs.Rules as rules;
 ghost use Rattle.interface_text.specs.States.{head_of, procedure_view};
 
-use crate::expect::Way;
-use crate::ident::Ident;
 use crate::interface::Procedure;
 use crate::limits::one_more;
 use crate::names::NameSet;
 use crate::shape::Shape;
 use crate::tree::{Tree, shape_of};
+use interface_tokens::{Ident, Way};
 use item_list::Items;
 use std::alloc::{AllocError, Global};
 

@@ -1,7 +1,7 @@
 //! What an interface declares.
 
-use crate::ident::Ident;
 use crate::shape::Shape;
+use interface_tokens::Ident;
 use item_list::Items;
 
 /// The exceptions and procedures of an interface.

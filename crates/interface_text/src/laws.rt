@@ -1,18 +1,19 @@
 //! What holds of interface texts. Each function here does nothing: its contract is the law.
 ghost use Rattle.std.specs.Prelude.{◌≡◌, ◌⊎◌, ◌++◌, ◌∷◌, ℕ, List, Ok, Err};
+ghost use Rattle.interface_text.specs.Depths.{IsWithinLimits};
 ghost use Rattle.interface_text.specs.Grammar as grammar;
 ghost use Rattle.interface_text.specs.Grammar.{Derives, tokens_in};
 ghost use Rattle.interface_text.specs.Interfaces.{DeclaredInterface};
 ghost use Rattle.interface_text.specs.Rules.{Reading, beginning, take_all};
-ghost use Rattle.interface_text.specs.Syntax.{act_of};
+ghost use Rattle.interface_tokens.specs.Syntax.{act_of};
 ghost use Rattle.interface_text.specs.Texts.{Declares, FirstFault};
-ghost use Rattle.interface_text.specs.Tokens.{tokens_of};
-ghost use Rattle.interface_text.specs.declared.fault.Cause.{Cause};
-ghost use Rattle.interface_text.specs.declared.place.Place.{Place};
-ghost use Rattle.interface_text.specs.declared.token.Spot.{Spot};
-ghost use Rattle.interface_text.specs.declared.token.Token.{Token};
+ghost use Rattle.interface_tokens.specs.Tokens.{tokens_of};
+ghost use Rattle.interface_tokens.specs.declared.fault.Cause.{Cause};
+ghost use Rattle.interface_tokens.specs.declared.place.Place.{Place};
+ghost use Rattle.interface_tokens.specs.declared.token.Spot.{Spot};
+ghost use Rattle.interface_tokens.specs.declared.token.Token.{Token};
 
-use crate::expect::{AtTop, Expect};
+use interface_tokens::{AtTop, Expect};
 
 /// A text has no fault exactly where it declares an interface, and then exactly one. It has one first fault at
 /// the most.
@@ -45,4 +46,9 @@ pub fn only_what_the_grammar_lacks_is_refused()
 pub fn only_what_the_grammar_lacks_ends_early()
     ensures { (name : List ℕ) (spots : List Spot) (reading : Reading) → take_all (beginning name) spots ≡ Ok reading
         → Derives grammar.behind_first_line (tokens_in spots) → reading.expect ≡ Expect.Top AtTop.Nothing }
+{}
+
+/// What a text declares has at most 256 procedures, and no type that is deeper than 16.
+pub fn what_is_declared_is_within_the_limits()
+    ensures { (text : List ℕ) (interface : DeclaredInterface) → Declares text interface → IsWithinLimits interface }
 {}

@@ -2,6 +2,8 @@
 ghost use Rattle.std.specs.Prelude.{◌≡◌, ◌≤◌, ◌<◌, ◌+◌, MatchOption};
 ghost use Rattle.interface_text.specs.TypeRules as rules;
 
+use interface_tokens::MAX_ARRAY_LEN;
+
 /// The most exceptions of an interface.
 pub const MAX_EXCEPTIONS: usize = 256;
 /// The most procedures of an interface.
@@ -12,8 +14,6 @@ pub const MAX_DEPTH: usize = 16;
 pub const MAX_PARTS: u32 = 4096;
 /// The most values of an enumeration.
 pub const MAX_VALUES: usize = 65_536;
-/// The greatest number that an array may have.
-pub const MAX_ARRAY_LEN: u32 = 92_160;
 
 /// The level of a part of this depth that stands in so many types, if it isn't too deep.
 pub(crate) fn level_of(round: usize, depth: u32) -> Option<u32>

@@ -1,12 +1,12 @@
 //! Names that are declared, and what they stand for.
 ghost use Rattle.std.specs.Prelude.{◌≡◌, ◌≤◌, ◌+◌, ◌++◌, ◌∷◌, [], OnOk, IfOk, None, length, not, is_some, option_map, option_copied, cond, if◌then◌else◌};
-ghost use Rattle.interface_text.specs.Names.{is_among};
+ghost use Rattle.interface_tokens.specs.Names.{is_among};
 ghost use Rattle.interface_text.specs.Meanings.{declare, exception_in, look_up, type_in};
 ghost use Rattle.interface_text.specs.Senses.{known_of, sense_of, senses_of};
 
-use crate::ident::Ident;
 use crate::tree::Tree;
 use indexmap::{IndexMap, IndexSet};
+use interface_tokens::Ident;
 use std::alloc::{AllocError, Global};
 use std::rc::Rc;
 

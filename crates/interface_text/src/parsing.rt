@@ -1,25 +1,27 @@
 //! From a text to the interface that it declares.
-ghost use Rattle.std.specs.Prelude.{◌≡◌, ◌<◌, length, IfOk, IfErr};
-ghost use Rattle.interface_text.specs.Outcome.{Gives};
-ghost use Rattle.interface_text.specs.Scanning.{tokens_view};
+ghost use Rattle.std.specs.Prelude.{◌≡◌, ◌<◌, ◌≤◌, length, IfOk, IfErr, All};
+ghost use Rattle.interface_text.specs.Depths.{IsShallow};
+ghost use Rattle.interface_tokens.specs.Outcome.{Gives};
+ghost use Rattle.interface_tokens.specs.Scanning.{tokens_view};
 ghost use Rattle.interface_text.specs.States.{interface_view};
 ghost use Rattle.interface_text.specs.Texts as texts;
 ghost use Rattle.interface_text.specs.Texts.{Declares, IsFirstFault};
 
-use crate::fault::{Cause, Stop, TextFault};
-use crate::ident::Ident;
+use crate::fault::TextFault;
 use crate::interface::Interface;
 use crate::reader::Reader;
-use crate::scanner::{Ending, Tokens, tokens_of};
-use crate::table::{is_sign, is_word, name_of};
-use crate::token::{Sign, Spot, Word};
+use interface_tokens::{
+    Cause, Ending, Ident, Sign, Spot, Stop, Tokens, Word, is_sign, is_word, name_of, tokens_of,
+};
 use std::alloc::Global;
 
 /// The interface that a text declares, or its first fault. Number 0 is want of memory.
-#[tactic(auto, using(crate::proofs::Telling::first_told, crate::proofs::Telling::memory_told))]
+#[tactic(auto, using(crate::proofs::Telling::first_told, crate::proofs::Telling::memory_told, crate::proofs::Limited::read_few))]
 pub fn parse(alloc: Global, text: &[u8]) -> Result<Interface, TextFault>
     requires { length text.now < u32.MAX }
     ensures interface { IfOk result (λ interface. Declares text.now (interface_view interface)) }
+    ensures few { IfOk result (λ interface. length interface.procedures ≤ 256) }
+    ensures shallow { IfOk result (λ interface. All IsShallow interface.procedures) }
     ensures fault { IfErr result (λ fault. 0 < fault.number → IsFirstFault text.now fault) }
     ensures memory { IfErr result (λ fault. fault.number ≡ 0 → (fault.line ≡ 0) × (fault.column ≡ 0)) }
 {

@@ -1,25 +1,22 @@
 //! What the tokens of an interface say, one by one.
 ghost use Rattle.std.specs.Prelude.{◌≡◌, Ok};
-ghost use Rattle.interface_text.specs.Outcome.{Gives};
+ghost use Rattle.interface_tokens.specs.Outcome.{Gives};
 ghost use Rattle.interface_text.specs.Trees.{part_kind};
 ghost use Rattle.interface_text.specs.Views.{settling_of};
 ghost use Rattle.interface_text.specs.Rules as rules;
 ghost use Rattle.interface_text.specs.States.{interface_view, reading_of};
 
-use crate::expect::{Act, AtProcedure, AtTop, AtType, Declare, Expect, InProcedure, Way};
-use crate::fault::{Cause, Stop};
 use crate::frames::Frames;
 use crate::heading::Heading;
-use crate::ident::Ident;
 use crate::interface::{Interface, Procedure};
 use crate::limits::{MAX_EXCEPTIONS, MAX_PROCEDURES};
 use crate::names::{Known, Meaning, Names};
-use crate::place::Place;
-use crate::scanner::Ending;
-use crate::table::act_of;
-use crate::token::Spot;
 use crate::tree::Tree;
 use crate::types::{Settled, Types};
+use interface_tokens::{
+    Act, AtProcedure, AtTop, AtType, Cause, Declare, Ending, Expect, Ident, InProcedure, Place,
+    Spot, Stop, Way, act_of,
+};
 use item_list::Items;
 use std::alloc::Global;
 use std::mem;

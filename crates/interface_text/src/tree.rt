@@ -3,8 +3,8 @@ ghost use Rattle.std.specs.Prelude.{◌≡◌, IfOk, map};
 ghost use Rattle.interface_text.specs.Kinds.{kind_of};
 ghost use Rattle.interface_text.specs.Trees.{kind_of_basic, kind_of_tree, part_kind};
 
-use crate::expect::Basic;
 use crate::shape::Shape;
+use interface_tokens::Basic;
 use std::alloc::{AllocError, Global};
 use std::rc::Rc;
 

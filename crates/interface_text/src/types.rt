@@ -1,20 +1,19 @@
 //! The type that is being read.
 ghost use Rattle.std.specs.Prelude.{◌≡◌, ◌≤◌, ◌<◌, ◌+◌, ◌++◌, MatchOption, OnOk, map, replicate, None, IfOk, option_map, option_copied};
-ghost use Rattle.interface_text.specs.Outcome.{Fails, Gives, stopped};
+ghost use Rattle.interface_tokens.specs.Outcome.{Fails, Gives, stopped};
 ghost use Rattle.interface_text.specs.Trees.{part_kind};
 ghost use Rattle.interface_text.specs.Senses.{known_of, senses_of};
 ghost use Rattle.interface_text.specs.TypeRules as rules;
 ghost use Rattle.interface_text.specs.Views.{typing_of, settling_of, group_of};
 
-use crate::expect::{AtType, Basic, Expect, TypeEnd, TypeStep};
-use crate::fault::{Cause, Stop};
 use crate::frames::{Fields, Frame, Frames};
-use crate::ident::Ident;
 use crate::limits::{MAX_PARTS, counted, is_length, level_of, one_more};
 use crate::names::{Known, NameSet, Names};
-use crate::place::{Place, START};
 use crate::tree::Tree;
 use crate::values::{Added, Values};
+use interface_tokens::{
+    AtType, Basic, Cause, Expect, Ident, Place, START, Stop, TypeEnd, TypeStep,
+};
 use std::alloc::{AllocError, Global};
 use std::rc::Rc;
 

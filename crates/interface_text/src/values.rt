@@ -2,9 +2,9 @@
 ghost use Rattle.std.specs.Prelude.{◌≡◌, ◌≤◌, ◌++◌, ◌∷◌, [], length, IfOk};
 ghost use Rattle.interface_text.specs.Adding.{adds_value};
 
-use crate::ident::Ident;
 use crate::limits::MAX_VALUES;
 use crate::names::NameSet;
+use interface_tokens::Ident;
 use std::alloc::{AllocError, Global};
 
 /// The values of an enumeration so far: names that differ.

@@ -5,7 +5,7 @@ use Rattle.interface_text.specs.Kinds as kind
 use Rattle.interface_text.specs.Kinds.{Kind, Kinds, kind_of, row}
 use Rattle.marshal_plans.specs.declared.instruction.Instruction.{Instruction}
 use Rattle.marshal_plans.specs.Forms.{form_of, forms_of, forms_in}
-use Rattle.marshal_plans.specs.Limits.{depth, deepest, AreShallow}
+use Rattle.interface_text.specs.Depths.{depth, deepest, AreShallow}
 use Rattle.marshal_plans.specs.Plan.{plans, groups, groups_all, IsPlan}
 
 mutual

@@ -11,6 +11,5 @@ pub mod Cursors
 pub mod Puts
 pub mod Gets
 pub mod Lengths
-pub mod Limits
 pub mod Pairs
 pub mod Text

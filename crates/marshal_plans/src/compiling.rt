@@ -1,7 +1,7 @@
 //! From the types of an interface to its plans.
 ghost use Rattle.std.specs.Prelude.{◌≡◌, ◌≢◌, ◌++◌, [], ◌∷◌, ◌<◌, ◌≤◌, length, vec_len, slice_set, map, All, None, Some, Ok, IfOk, IfErr, OnOk};
 ghost use Rattle.marshal_plans.specs.Lengths.{too_long};
-ghost use Rattle.marshal_plans.specs.Limits.{IsShallow, AreShallow};
+ghost use Rattle.interface_text.specs.Depths.{IsShallow, AreShallow};
 ghost use Rattle.marshal_plans.specs.Pairs.{pair_of, plans_of};
 ghost use Rattle.marshal_plans.specs.Plan.{plan, plans, array_plan, is_byte};
 ghost use Rattle.marshal_plans.specs.Forms.{form_in, forms_in};

@@ -1,7 +1,7 @@
 //! How deep types go.
 ghost use Rattle.std.specs.Prelude.{◌≡◌, ◌≤◌, ◌↔◌, IsTrue, All, map};
 ghost use Rattle.interface_text.specs.Kinds.{kind_of, row};
-ghost use Rattle.marshal_plans.specs.Limits.{depth, deepest, IsShallow};
+ghost use Rattle.interface_text.specs.Depths.{depth, deepest, IsShallow};
 
 use interface_text::{Interface, Procedure, Shape};
 

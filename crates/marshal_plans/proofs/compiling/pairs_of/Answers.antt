@@ -1,5 +1,5 @@
 use Rattle.std.proofs.Common.{map, sym, subst}
-use Rattle.marshal_plans.specs.Limits.{IsShallow}
+use Rattle.interface_text.specs.Depths.{IsShallow}
 use Rattle.marshal_plans.specs.Pairs.{plans_of}
 use Rattle.marshal_plans.proofs.Patching.{pairs_more}
 use Rattle.marshal_plans.proofs.compiling.pairs_of.Goals as goal

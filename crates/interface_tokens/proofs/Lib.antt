@@ -1,0 +1,3 @@
+pub mod Scanned
+pub mod Spelling
+pub mod Storing
