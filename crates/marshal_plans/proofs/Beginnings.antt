@@ -7,7 +7,7 @@ use Rattle.marshal_plans.specs.declared.instruction.Instruction.{Instruction}
 use Rattle.marshal_plans.specs.declared.levels.Left.TheVariants.{Fields, Elements}
 use Rattle.marshal_plans.specs.declared.step.Step.TheVariants as step
 use Rattle.marshal_plans.specs.Data.{Data, group}
-use Rattle.marshal_plans.specs.Forms.{Form, Forms, number, array, record_of}
+use Rattle.marshal_plans.specs.Forms.{Form, number, array, record_of}
 use Rattle.marshal_plans.specs.Lefts.{Todo, all_of, elements, IsLeft, todo_groups, reads_todo}
 use Rattle.marshal_plans.specs.Plan.{groups}
 use Rattle.marshal_plans.specs.Reading.{Read, ◌>>=◌, counted, reads, times}

@@ -1,16 +1,15 @@
 -- Arrays of bytes: their bytes, and values that stand for bytes.
-use Rattle.std.proofs.Common.{◌≡◌, ◌<◌, ◌≤◌, ◌+◌, ◌-◌, ◌^◌, ℕ, zero, suc, pos, Bool, cond, get_or, List, [], ◌∷◌, ◌++◌, length, take, drop, Option, Some, None, Ok, Err, refl, ap, sym, ◌∙◌, arith}
+use Rattle.std.proofs.Common.{◌≡◌, ◌<◌, ◌≤◌, ◌-◌, ◌^◌, ℕ, zero, suc, pos, Bool, cond, get_or, List, [], ◌∷◌, length, take, drop, Option, Some, None, Ok, Err, refl, ap, sym, ◌∙◌, arith}
 use borrow.Author.Tests.{lt-ltb}
-use Rattle.std.specs.Int.{bytes_high_first}
 use Rattle.std.proofs.Math.Nat.{mod-eq_of_lt}
-use Rattle.byteorder.specs.Endian.{big_bytes, big_number}
+use Rattle.byteorder.specs.Endian.{big_number}
 use Rattle.marshal_plans.specs.declared.basic.Basic.TheVariants.{Byte}
 use Rattle.marshal_plans.specs.declared.fault.GetFault.TheVariants.{Short}
-use Rattle.marshal_plans.specs.Basics.{plain_value, plain_code, code_of, value_of}
+use Rattle.marshal_plans.specs.Basics.{plain_value, value_of}
 use Rattle.marshal_plans.specs.Data.{Datum, Data, plain, no_data, datum_then, behind_bytes}
 use Rattle.marshal_plans.specs.Encoding.{enc, each, joined, spelled}
 use Rattle.marshal_plans.specs.Forms.{number}
-use Rattle.marshal_plans.specs.Reading.{Read, ◌>>=◌, in_range, item, reads, times}
+use Rattle.marshal_plans.specs.Reading.{Read, ◌>>=◌, in_range, reads, times}
 use Rattle.marshal_plans.proofs.Bytes.{AreBytes, bytes-tail}
 use Rattle.marshal_plans.proofs.Items.{item_whole, item_short}
 use Rattle.marshal_plans.proofs.Placing.{joined_empty, joined_assoc}

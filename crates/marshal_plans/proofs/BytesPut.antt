@@ -1,5 +1,5 @@
 -- How far the writing of an array of bytes has come.
-use Rattle.std.proofs.Common.{◌≡◌, ◌<◌, ◌≤◌, ◌+◌, ℕ, suc, List, [], ◌∷◌, ◌++◌, length, drop, get_or, drop-cons, add-one, Option, Some, Ok, Err, ap, sym, ◌∙◌}
+use Rattle.std.proofs.Common.{◌≡◌, ◌<◌, ◌≤◌, ◌+◌, ℕ, suc, List, ◌∷◌, ◌++◌, length, drop, get_or, drop-cons, add-one, Option, Some, Ok, Err, ap, sym, ◌∙◌}
 use Rattle.std.proofs.lemmas.List.{drop_all}
 use Rattle.marshal_plans.specs.declared.basic.Basic.TheVariants.{Byte}
 use Rattle.marshal_plans.specs.declared.fault.PutFault.{PutFault}

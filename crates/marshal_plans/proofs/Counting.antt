@@ -1,7 +1,7 @@
 -- How many values there are.
-use Rattle.std.proofs.Common.{◌≡◌, ◌+◌, ℕ, List, [], ◌∷◌, length, map, arith}
+use Rattle.std.proofs.Common.{◌≡◌, ◌+◌, ℕ, List, [], ◌∷◌, length, arith}
 use Rattle.marshal_plans.specs.declared.value.Value.{Value}
-use Rattle.marshal_plans.specs.Data.{Data, Datum, row, count, datum_of, data_of, behind_bytes}
+use Rattle.marshal_plans.specs.Data.{Data, count, data_of, behind_bytes}
 
 count_row : (vs : List Value) → count (data_of vs) ≡ length vs
 count_row [] = omega arith

@@ -1,9 +1,8 @@
 -- How far the reading of a plan has come.
-use Rattle.std.proofs.Common.{◌≡◌, ◌<◌, ◌≤◌, ◌+◌, ◌^◌, ℕ, suc, List, [], ◌∷◌, ◌++◌, length, Option, Some, None, Result, Ok, Err, refl, ap, sym, ◌∙◌, subst, arith, length-append}
+use Rattle.std.proofs.Common.{◌≡◌, ◌<◌, ◌≤◌, ◌+◌, ◌^◌, ℕ, suc, List, [], ◌∷◌, ◌++◌, length, Ok, refl, ap, sym, ◌∙◌, subst, arith, length-append}
 use Rattle.marshal_plans.specs.declared.fault.GetFault.{GetFault}
 use Rattle.marshal_plans.specs.declared.instruction.Instruction.{Instruction}
-use Rattle.marshal_plans.specs.declared.getting.GetTurn.{GetTurn}
-use Rattle.marshal_plans.specs.declared.getting.GetTurn.TheVariants.{Done, Along, Down}
+use Rattle.marshal_plans.specs.declared.getting.GetTurn.TheVariants.{Along, Down}
 use Rattle.marshal_plans.specs.declared.getting.Unread.{Unread}
 use Rattle.marshal_plans.specs.declared.levels.Left.{Left}
 use Rattle.marshal_plans.specs.declared.value.Value.{Value}
@@ -14,7 +13,7 @@ use Rattle.marshal_plans.specs.Lefts.{Todo, all_of, IsLeft, todo_groups, reads_t
 use Rattle.marshal_plans.specs.Plan.{plans, groups_all}
 use Rattle.marshal_plans.specs.Reading.{Read, ◌>>=◌, reads_all, with_front}
 use Rattle.marshal_plans.specs.Steps.{Fails}
-use Rattle.marshal_plans.proofs.GetTurns.{fails_through, fails_along, front_more, front_none, followed_nothing}
+use Rattle.marshal_plans.proofs.GetTurns.{fails_through, fails_along, front_more, front_none}
 use Rattle.marshal_plans.proofs.Stacks.{Stack, Bounded, pushed, popped}
 
 abbrev pub get_left : Unread → Left

@@ -1,5 +1,5 @@
 -- A turn of reading leads from one state to the next, and is nearer to the end.
-use Rattle.std.proofs.Common.{◌≡◌, ◌<◌, ◌≤◌, ◌+◌, ◌-◌, ◌^◌, ℕ, suc, max, List, [], ◌∷◌, ◌++◌, length, map, Result, Ok, Err, refl, ap, sym, ◌∙◌, subst, arith, lit<, Vec, Global}
+use Rattle.std.proofs.Common.{◌≡◌, ◌<◌, ◌≤◌, ◌-◌, ◌^◌, ℕ, suc, List, [], ◌∷◌, ◌++◌, length, map, Ok, ap, sym, ◌∙◌, subst, arith, lit<, Vec, Global}
 use Rattle.std.proofs.lemmas.List.{map-append, length-map}
 use Rattle.std.specs.Borrow.{Bor}
 use Rattle.marshal_plans.specs.declared.fault.GetFault.{GetFault}
@@ -9,12 +9,12 @@ use Rattle.marshal_plans.specs.declared.getting.Unread.{Unread}
 use Rattle.marshal_plans.specs.declared.instruction.Instruction.{Instruction}
 use Rattle.marshal_plans.specs.declared.levels.Left.TheVariants.{Fields}
 use Rattle.marshal_plans.specs.declared.value.Value.{Value}
-use Rattle.marshal_plans.specs.Data.{Data, group, no_data, datum_then, data_of, followed}
+use Rattle.marshal_plans.specs.Data.{group, no_data, datum_then, data_of, followed}
 use Rattle.marshal_plans.specs.Forms.{Forms}
 use Rattle.marshal_plans.specs.Gets.{GoesOn, Lessens, rest_read}
 use Rattle.marshal_plans.specs.Lefts.{Todo, all_of, IsLeft, left_size, left_bound}
 use Rattle.marshal_plans.specs.Plan.{plans, IsPlan}
-use Rattle.marshal_plans.specs.Reading.{Read, reads_all}
+use Rattle.marshal_plans.specs.Reading.{reads_all}
 use Rattle.marshal_plans.specs.Steps.{Fails}
 use Rattle.marshal_plans.proofs.GetStates.{GetState, get_left, get_size, running_start, running_along, running_down, running_up, running_end, running_wrong, room}
 use Rattle.marshal_plans.proofs.PutSteps.{size_within}

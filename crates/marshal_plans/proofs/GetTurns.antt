@@ -1,26 +1,17 @@
 -- One turn of reading, by what comes next.
-use Rattle.std.proofs.Common.{◌≡◌, ◌≤◌, ◌+◌, ℕ, zero, suc, List, [], ◌∷◌, ◌++◌, Option, Some, None, Result, Ok, Err, refl, ap, sym, ◌∙◌, subst, arith}
-use Rattle.std.specs.Borrow.{Bor}
-use Rattle.marshal_plans.specs.declared.basic.Basic.{Basic}
-use Rattle.marshal_plans.specs.declared.basic.Basic.TheVariants.{Byte}
+use Rattle.std.proofs.Common.{◌≡◌, ℕ, zero, suc, List, [], ◌∷◌, ◌++◌, Some, None, Ok, Err, refl, ap, sym, ◌∙◌, subst, arith}
 use Rattle.marshal_plans.specs.declared.fault.GetFault.{GetFault}
 use Rattle.marshal_plans.specs.declared.fault.GetFault.TheVariants.{Short, Range, Left, Memory}
 use Rattle.marshal_plans.specs.declared.getting.Begun.TheVariants.{Whole, Group}
-use Rattle.marshal_plans.specs.declared.getting.GetTurn.TheVariants.{Done, Along, Down}
+use Rattle.marshal_plans.specs.declared.getting.GetTurn.TheVariants.{Along, Down}
 use Rattle.marshal_plans.specs.declared.getting.Unread.{Unread}
-use Rattle.marshal_plans.specs.declared.instruction.Extent.{Extent}
-use Rattle.marshal_plans.specs.declared.instruction.Instruction.{Instruction}
-use Rattle.marshal_plans.specs.declared.levels.Left as left
-use Rattle.marshal_plans.specs.declared.levels.Left.TheVariants.{Fields, Elements}
 use Rattle.marshal_plans.specs.declared.step.Step.{Step}
-use Rattle.marshal_plans.specs.declared.step.Step.TheVariants as step
 use Rattle.marshal_plans.specs.declared.value.Value.{Value}
-use Rattle.marshal_plans.specs.Data.{Datum, Data, plain, group, no_data, datum_then, datum_of, data_of, followed}
-use Rattle.marshal_plans.specs.Forms.{Form, Forms, number, array, record_of, no_forms, form_then}
+use Rattle.marshal_plans.specs.Data.{Datum, Data, group, no_data, datum_then, datum_of, data_of, followed}
+use Rattle.marshal_plans.specs.Forms.{Form, no_forms, form_then}
 use Rattle.marshal_plans.specs.Gets.{Begins, GoesOn, rest_read, behind_group}
-use Rattle.marshal_plans.specs.Lefts.{Todo, all_of, elements, opened, IsLeft, IsTurn, todo_groups, reads_todo}
-use Rattle.marshal_plans.specs.Plan.{plans, groups}
-use Rattle.marshal_plans.specs.Reading.{Read, ◌>>=◌, counted, reads, reads_all, times, with_front}
+use Rattle.marshal_plans.specs.Lefts.{Todo, all_of, elements, opened, IsTurn, reads_todo}
+use Rattle.marshal_plans.specs.Reading.{Read, ◌>>=◌, reads, with_front}
 use Rattle.marshal_plans.specs.Steps.{IsStep, Fails}
 use Rattle.marshal_plans.proofs.Nexts.{Next, next_of}
 

@@ -1,5 +1,5 @@
 -- Each encoding is as long as its type allows.
-use Rattle.std.proofs.Common.{◌≡◌, ◌≤◌, ◌+◌, ◌*◌, ◌-◌, ◌^◌, min, ℕ, suc, Bool, cond, nat_le, ◌==◌, List, [], ◌++◌, length, Option, Some, None, ap, sym, ◌∙◌, arith, length-append}
+use Rattle.std.proofs.Common.{◌≡◌, ◌≤◌, ◌+◌, ◌*◌, ◌-◌, ◌^◌, min, ℕ, nat_le, ◌==◌, List, [], ◌++◌, length, Option, Some, None, ap, sym, ◌∙◌, arith, length-append}
 use borrow.Author.Tests.{leb-true, eqb-true}
 use Rattle.std.proofs.Math.Nat.{mul-le-mul_left}
 use Rattle.byteorder.specs.Endian.{big_bytes}
@@ -8,7 +8,7 @@ use Rattle.marshal_plans.specs.declared.instruction.Extent.{Extent}
 use Rattle.marshal_plans.specs.declared.instruction.Extent.TheVariants.{Exactly, UpTo}
 use Rattle.marshal_plans.specs.Basics.{width, code_of}
 use Rattle.marshal_plans.specs.Data.{Datum, Data, plain, group, no_data, datum_then, count}
-use Rattle.marshal_plans.specs.Encoding.{enc, enc_all, each, joined, spelled, count_code}
+use Rattle.marshal_plans.specs.Encoding.{enc, enc_all, each, spelled, count_code}
 use Rattle.marshal_plans.specs.Forms.{Form, Forms, number, array, record_of, no_forms, form_then}
 use Rattle.marshal_plans.specs.Lengths.{least, least_all, largest, largest_all, least_array, largest_array}
 use Rattle.marshal_plans.proofs.Parts.{joined_parts, guarded}

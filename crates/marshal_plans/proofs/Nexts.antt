@@ -2,7 +2,7 @@
 use Rattle.std.proofs.Common.{◌≡◌, ◌≤◌, zero, suc, Some, refl, arith}
 use Rattle.marshal_plans.specs.declared.levels.Left.{Left}
 use Rattle.marshal_plans.specs.declared.step.Step.{Step}
-use Rattle.marshal_plans.specs.Forms.{Form, Forms, no_forms, form_then}
+use Rattle.marshal_plans.specs.Forms.{Form, no_forms, form_then}
 use Rattle.marshal_plans.specs.Lefts.{Todo, all_of, elements, opened, IsLeft, IsTurn, todo_groups}
 use Rattle.marshal_plans.specs.Plan.{groups}
 use Rattle.marshal_plans.specs.Steps.{IsStep}

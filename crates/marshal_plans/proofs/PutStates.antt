@@ -1,20 +1,19 @@
 -- How far the writing of a plan has come.
-use Rattle.std.proofs.Common.{◌≡◌, ◌<◌, ◌≤◌, ◌+◌, ◌^◌, ℕ, suc, List, [], ◌∷◌, ◌++◌, length, Option, Some, None, Result, Ok, Err, refl, ap, sym, ◌∙◌, subst, arith, length-append}
+use Rattle.std.proofs.Common.{◌≡◌, ◌<◌, ◌≤◌, ◌+◌, ◌^◌, ℕ, suc, List, [], ◌∷◌, ◌++◌, length, Option, Some, None, Ok, Err, refl, ap, sym, ◌∙◌, subst, arith, length-append}
 use Rattle.marshal_plans.specs.declared.fault.PutFault.{PutFault}
 use Rattle.marshal_plans.specs.declared.fault.PutFault.TheVariants.{Shape, Room}
 use Rattle.marshal_plans.specs.declared.instruction.Instruction.{Instruction}
 use Rattle.marshal_plans.specs.declared.levels.Left.{Left}
-use Rattle.marshal_plans.specs.declared.putting.PutTurn.{PutTurn}
 use Rattle.marshal_plans.specs.declared.putting.PutTurn.TheVariants.{Done, Along, Down}
 use Rattle.marshal_plans.specs.declared.putting.Unput.{Unput}
 use Rattle.marshal_plans.specs.Data.{Data}
 use Rattle.marshal_plans.specs.Encoding.{enc_all, joined}
-use Rattle.marshal_plans.specs.Forms.{Form, Forms}
+use Rattle.marshal_plans.specs.Forms.{Forms}
 use Rattle.marshal_plans.specs.Lefts.{Todo, all_of, IsLeft, todo_groups, left_size, left_bound}
-use Rattle.marshal_plans.specs.Plan.{plans, groups_all, IsPlan}
-use Rattle.marshal_plans.specs.Puts.{Onward, Turned, rest_code}
+use Rattle.marshal_plans.specs.Plan.{plans, groups_all}
+use Rattle.marshal_plans.specs.Puts.{Turned, rest_code}
 use Rattle.marshal_plans.specs.Writing.{Wrote, Puts}
-use Rattle.marshal_plans.proofs.Placing.{joined_assoc, joined_empty, joined_nothing, joined_none, wrote_nothing, wrote_more}
+use Rattle.marshal_plans.proofs.Placing.{joined_assoc, joined_empty, joined_nothing, wrote_nothing, wrote_more}
 use Rattle.marshal_plans.proofs.Stacks.{Stack, Bounded, pushed, popped}
 
 abbrev pub put_left : Unput → Left

@@ -1,16 +1,13 @@
 -- One turn of writing, by what comes next.
-use Rattle.std.proofs.Common.{◌≡◌, ◌≤◌, ◌+◌, ℕ, zero, suc, List, [], ◌++◌, Option, Some, None, Ok, refl, ap, sym, ◌∙◌, subst, arith}
-use Rattle.marshal_plans.specs.declared.cursor.Cursor.{Cursor}
-use Rattle.marshal_plans.specs.declared.levels.Left.{Left}
+use Rattle.std.proofs.Common.{◌≡◌, ℕ, zero, suc, List, Option, Some, None, Ok, ap, ◌∙◌, arith}
 use Rattle.marshal_plans.specs.declared.putting.PutTurn.TheVariants.{Along, Down}
 use Rattle.marshal_plans.specs.declared.putting.Unput.{Unput}
 use Rattle.marshal_plans.specs.declared.step.Step.{Step}
 use Rattle.marshal_plans.specs.Cursors.{cursor_data}
-use Rattle.marshal_plans.specs.Data.{Datum, Data, no_data, datum_then}
+use Rattle.marshal_plans.specs.Data.{Datum, Data, datum_then}
 use Rattle.marshal_plans.specs.Encoding.{enc, joined}
-use Rattle.marshal_plans.specs.Forms.{Form, Forms, no_forms, form_then}
-use Rattle.marshal_plans.specs.Lefts.{Todo, all_of, elements, opened, IsLeft, IsTurn, todo_groups, enc_todo}
-use Rattle.marshal_plans.specs.Plan.{groups}
+use Rattle.marshal_plans.specs.Forms.{Form, no_forms, form_then}
+use Rattle.marshal_plans.specs.Lefts.{Todo, all_of, elements, opened, IsTurn, enc_todo}
 use Rattle.marshal_plans.specs.Puts.{Onward, Started, rest_code}
 use Rattle.marshal_plans.specs.Steps.{IsStep}
 use Rattle.marshal_plans.specs.Writing.{Wrote}

@@ -7,7 +7,7 @@ use Rattle.byteorder.specs.Numbers.{big_from-lt}
 use Rattle.marshal_plans.specs.declared.fault.GetFault.TheVariants.{Short}
 use Rattle.marshal_plans.specs.declared.instruction.Extent.{Extent}
 use Rattle.marshal_plans.specs.declared.instruction.Extent.TheVariants.{Exactly, UpTo}
-use Rattle.marshal_plans.specs.Basics.{width, code_of, value_of}
+use Rattle.marshal_plans.specs.Basics.{width, value_of}
 use Rattle.marshal_plans.specs.Data.{Datum, Data, plain, group, no_data, datum_then, count}
 use Rattle.marshal_plans.specs.Encoding.{enc, enc_all, each, joined, spelled, count_code}
 use Rattle.marshal_plans.specs.Reading.{Read, ◌>>=◌, in_range, counted, item, reads, reads_all, times, whole, decoded}

@@ -1,5 +1,5 @@
 -- What was written is read again.
-use Rattle.std.proofs.Common.{◌≡◌, ◌≤◌, ◌-◌, ◌^◌, ◌==◌, nat_le, min, ℕ, ℤ, suc, Bool, true, cond, List, [], ◌∷◌, ◌++◌, length, Option, Some, None, Result, Ok, refl, ap, sym, ◌∙◌, arith, append_assoc}
+use Rattle.std.proofs.Common.{◌≡◌, ◌≤◌, ◌-◌, ◌^◌, ◌==◌, nat_le, min, ℕ, ℤ, suc, Bool, true, cond, List, [], ◌++◌, length, Option, Some, None, Result, Ok, refl, ap, sym, ◌∙◌, arith, append_assoc}
 use Rattle.std.proofs.lemmas.List.{append-nil}
 use borrow.Author.Tests.{le-leb, leb-true, eqb-true}
 use Rattle.byteorder.specs.Endian.{big_bytes}
@@ -8,7 +8,7 @@ use Rattle.marshal_plans.specs.declared.instruction.Extent.{Extent}
 use Rattle.marshal_plans.specs.declared.instruction.Extent.TheVariants.{Exactly, UpTo}
 use Rattle.marshal_plans.specs.Basics.{width, code_of, value_of}
 use Rattle.marshal_plans.specs.Data.{Datum, Data, plain, group, no_data, datum_then, count}
-use Rattle.marshal_plans.specs.Encoding.{enc, enc_all, each, joined, spelled, count_code}
+use Rattle.marshal_plans.specs.Encoding.{enc, enc_all, each, spelled, count_code}
 use Rattle.marshal_plans.specs.Reading.{Read, ◌>>=◌, counted, reads, reads_all, times, whole, decoded}
 use Rattle.marshal_plans.specs.Forms.{Form, Forms, number, array, record_of, no_forms, form_then}
 use Rattle.marshal_plans.proofs.Codes.{code_back, item_back}

@@ -1,5 +1,5 @@
 -- The types that shapes are.
-use Rattle.std.proofs.Common.{◌≡◌, ◌∙◌, ap, sym, ℕ, List, map, Box, Vec, Global}
+use Rattle.std.proofs.Common.{◌≡◌, ◌∙◌, ap, sym, ℕ, map, Box, Vec, Global}
 use Rattle.interface_text.specs.declared.shape.Shape.{Shape}
 use Rattle.interface_text.specs.declared.shape.Shape.TheOpen as shape
 use Rattle.interface_text.specs.declared.shape.Shape.TheViews.{Array, Open, Fields, rolls-Array, rolls-Open, rolls-Fields}

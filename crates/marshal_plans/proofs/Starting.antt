@@ -1,9 +1,8 @@
 -- The beginning of a value, as it is written and as it is read.
-use Rattle.std.proofs.Common.{◌≡◌, ◌<◌, ◌≤◌, ◌+◌, ◌-◌, ◌^◌, nat_le, min, ℕ, ℤ, suc, zero, Bool, cond, List, [], ◌∷◌, ◌++◌, length, Option, Some, None, Result, Ok, Err, refl, ap, sym, ◌∙◌, subst, arith}
+use Rattle.std.proofs.Common.{◌≡◌, ℕ, ℤ, List, [], ◌++◌, Option, Some, None, Ok, Err, refl, ap, sym, ◌∙◌, subst, arith}
 use Rattle.std.specs.Borrow.{Bor}
 use Rattle.marshal_plans.specs.declared.basic.Basic.{Basic}
 use Rattle.marshal_plans.specs.declared.basic.Basic.TheVariants.{Byte}
-use Rattle.marshal_plans.specs.declared.cursor.Cursor.{Cursor}
 use Rattle.marshal_plans.specs.declared.fault.PutFault.{PutFault}
 use Rattle.marshal_plans.specs.declared.fault.PutFault.TheVariants.{Shape, Room}
 use Rattle.marshal_plans.specs.declared.instruction.Extent.{Extent}
@@ -16,12 +15,11 @@ use Rattle.marshal_plans.specs.Basics.{width, code_of}
 use Rattle.marshal_plans.specs.Cursors.{cursor_data}
 use Rattle.marshal_plans.specs.Data.{Datum, Data, plain, group, no_data, datum_then, count}
 use Rattle.marshal_plans.specs.Encoding.{enc, enc_all, each, each_of, joined, spelled, count_code}
-use Rattle.marshal_plans.specs.Forms.{Form, Forms, number, array, record_of}
-use Rattle.marshal_plans.specs.Lefts.{Todo, all_of, elements, IsLeft, todo_groups}
-use Rattle.marshal_plans.specs.Plan.{plan, plans, groups}
-use Rattle.marshal_plans.specs.Puts.{Started, Headed, rest_code}
+use Rattle.marshal_plans.specs.Forms.{Form, number, array, record_of}
+use Rattle.marshal_plans.specs.Lefts.{all_of, elements, IsLeft}
+use Rattle.marshal_plans.specs.Puts.{Started, Headed}
 use Rattle.marshal_plans.specs.Steps.{IsStep}
-use Rattle.marshal_plans.specs.Writing.{Wrote, Puts}
+use Rattle.marshal_plans.specs.Writing.{Puts}
 use Rattle.marshal_plans.proofs.Placing.{wrote_nothing, wrote_more, joined_empty}
 
 -- as many values as there are

@@ -1,5 +1,5 @@
 -- What comes next of so many elements.
-use Rattle.std.proofs.Common.{◌≡◌, ◌<◌, ◌≤◌, ◌-◌, ℕ, zero, suc, List, [], ◌++◌, Some, None, Option, ap, sym, ◌∙◌, arith}
+use Rattle.std.proofs.Common.{◌≡◌, ◌<◌, ◌≤◌, ◌-◌, ℕ, zero, suc, List, Some, None, sym, ◌∙◌, arith}
 use Rattle.std.proofs.lemmas.List.{append-nil}
 use Rattle.std.specs.Borrow.{Bor}
 use Rattle.marshal_plans.specs.declared.instruction.Instruction.{Instruction}
@@ -8,7 +8,7 @@ use Rattle.marshal_plans.specs.declared.step.Step.{Step}
 use Rattle.marshal_plans.specs.Forms.{Form, Forms, form_then, no_forms}
 use Rattle.marshal_plans.specs.Lefts.{Todo, all_of, elements, opened, IsLeft, IsTurn}
 use Rattle.marshal_plans.specs.Plan.{plan, plans}
-use Rattle.marshal_plans.specs.Steps.{Opens, IsStep}
+use Rattle.marshal_plans.specs.Steps.{Opens}
 
 alone : (f : Form) (element : List Instruction) → element ≡ plan f → element ≡ plans (form_then f no_forms)
 alone f element e = e ∙ sym (append-nil (plan f))

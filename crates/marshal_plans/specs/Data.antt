@@ -1,5 +1,5 @@
 -- Values as plain data.
-use Rattle.std.specs.Prelude.{ℕ, ℤ, pos, suc, zero, List, [], ◌∷◌, map}
+use Rattle.std.specs.Prelude.{ℕ, ℤ, pos, suc, List, [], ◌∷◌, map}
 use Rattle.marshal_plans.specs.declared.value.Value.{Value}
 use Rattle.marshal_plans.specs.declared.value.Values.{Values}
 use Rattle.marshal_plans.specs.declared.value.Value.TheOpen.{Value-F, Values-F}

@@ -1,5 +1,5 @@
 -- The encoding: the bytes of values by their types.
-use Rattle.std.specs.Prelude.{ℕ, ℤ, zero, suc, List, [], ◌++◌, nat_le, min, ◌-◌, ◌^◌, ◌==◌, Option, Some, None, if◌then◌else◌}
+use Rattle.std.specs.Prelude.{ℕ, zero, suc, List, [], ◌++◌, nat_le, min, ◌-◌, ◌^◌, ◌==◌, Option, Some, None, if◌then◌else◌}
 use Rattle.byteorder.specs.Endian.{big_bytes}
 use Rattle.marshal_plans.specs.declared.instruction.Extent.{Extent}
 use Rattle.marshal_plans.specs.declared.instruction.Extent.TheVariants.{Exactly, UpTo}

@@ -1,4 +1,4 @@
-use Rattle.std.proofs.Common.{List, ℕ, Ok, subst, refl}
+use Rattle.std.proofs.Common.{Ok, subst, refl}
 use Rattle.marshal_plans.specs.declared.getting.Begun.{Begun}
 use Rattle.marshal_plans.specs.declared.getting.Unread.{Unread}
 use Rattle.marshal_plans.specs.Gets.{Begins}

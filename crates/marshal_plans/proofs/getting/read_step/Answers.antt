@@ -1,5 +1,5 @@
-use Rattle.std.proofs.Common.{◌∙◌, ap, sym, subst, arith, Ok, List, ℕ}
-use Rattle.marshal_plans.specs.Data.{Data, Datum, group, no_data, behind_bytes, datum_of}
+use Rattle.std.proofs.Common.{◌∙◌, ap, sym, subst, Ok}
+use Rattle.marshal_plans.specs.Data.{Datum, group, no_data, behind_bytes}
 use Rattle.marshal_plans.specs.Steps.{IsStep}
 use Rattle.marshal_plans.proofs.Beginnings.{begin_record, begin_array, begin_bytes}
 use Rattle.marshal_plans.proofs.ValueData.{datum_group}

@@ -2,7 +2,7 @@ use Rattle.std.proofs.Common.{refl, length, arith}
 use Rattle.std.proofs.lemmas.Result.{err_from_is_err_and}
 use Rattle.std.proofs.lemmas.Bool.{false≢true}
 use Rattle.marshal_plans.specs.declared.levels.Left.TheVariants.{Fields}
-use Rattle.marshal_plans.proofs.GetSteps.{state_start, state_along, smaller_along, state_down, smaller_down, room_down, state_up, smaller_up, state_end, state_wrong, whole_group}
+use Rattle.marshal_plans.proofs.GetSteps.{state_start, state_along, smaller_along, state_down, smaller_down, state_up, smaller_up, state_end, state_wrong, whole_group}
 use Rattle.marshal_plans.proofs.Stacks.{nothing_there}
 use Rattle.marshal_plans.proofs.getting.run.Goals as goal
 

@@ -1,4 +1,4 @@
-use Rattle.std.proofs.Common.{◌≡◌, ◌^◌, ◌++◌, [], ◌∷◌, map}
+use Rattle.std.proofs.Common.{◌^◌, ◌++◌, [], ◌∷◌, map}
 use Rattle.marshal_plans.proofs.GetStates.{GetState, get_size}
 use Rattle.marshal_plans.proofs.Ranks.{rank}
 use Rattle.marshal_plans.proofs.getting.run.Given as goal

@@ -1,7 +1,6 @@
 use Rattle.std.proofs.Common.{arith}
-use Rattle.std.proofs.lemmas.Result.{err_from_is_err_and}
 use Rattle.marshal_plans.specs.Data.{data_of, behind_bytes}
-use Rattle.marshal_plans.proofs.BytesPut.{begun, one_more, no_byte, done}
+use Rattle.marshal_plans.proofs.BytesPut.{begun, one_more}
 use Rattle.marshal_plans.proofs.putting.put_bytes.Goals as goal
 
 pub loop-value-init : goal.loop-value-init

@@ -1,4 +1,4 @@
-use Rattle.std.proofs.Common.{◌≡◌, ◌∙◌, ℕ, List, Some, None, Ok, Err, sym, ap, subst, refl}
+use Rattle.std.proofs.Common.{Some, None, Ok, Err, sym, subst, refl}
 use Rattle.std.proofs.lemmas.Result.{err_from_is_err_and}
 use Rattle.marshal_plans.specs.declared.cursor.Taken.{Taken}
 use Rattle.marshal_plans.specs.declared.levels.Left.TheVariants.{Fields, Elements}

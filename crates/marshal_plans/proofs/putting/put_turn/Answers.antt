@@ -1,4 +1,4 @@
-use Rattle.std.proofs.Common.{List, ℕ, Option, Ok, subst}
+use Rattle.std.proofs.Common.{Option, Ok, subst}
 use Rattle.marshal_plans.specs.declared.putting.Unput.{Unput}
 use Rattle.marshal_plans.specs.Cursors.{taken_datum}
 use Rattle.marshal_plans.specs.Puts.{Started}

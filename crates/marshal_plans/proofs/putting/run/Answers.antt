@@ -2,7 +2,7 @@ use Rattle.std.proofs.Common.{refl, arith}
 use Rattle.std.proofs.lemmas.Bool.{false≢true}
 use Rattle.marshal_plans.specs.declared.levels.Left.TheVariants.{Fields}
 use Rattle.marshal_plans.specs.Cursors.{cursor_data}
-use Rattle.marshal_plans.proofs.PutSteps.{state_start, state_along, smaller_along, state_down, smaller_down, room_down, state_up, smaller_up, state_end, state_wrong}
+use Rattle.marshal_plans.proofs.PutSteps.{state_start, state_along, smaller_along, state_down, smaller_down, state_up, smaller_up, state_end}
 use Rattle.marshal_plans.proofs.Stacks.{nothing_there}
 use Rattle.marshal_plans.proofs.putting.run.Goals as goal
 

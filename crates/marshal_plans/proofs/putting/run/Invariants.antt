@@ -1,9 +1,6 @@
-use Rattle.std.proofs.Common.{◌≡◌, ◌<◌, ◌^◌, ◌++◌, [], ◌∷◌, map}
+use Rattle.std.proofs.Common.{◌^◌, ◌++◌, [], ◌∷◌, map}
 use Rattle.marshal_plans.specs.Cursors.{cursor_data}
-use Rattle.marshal_plans.specs.Forms.{Forms}
-use Rattle.marshal_plans.specs.Lefts.{left_size, left_bound}
-use Rattle.marshal_plans.specs.Plan.{plans}
-use Rattle.marshal_plans.proofs.PutStates.{Running, PutState, put_size}
+use Rattle.marshal_plans.proofs.PutStates.{PutState, put_size}
 use Rattle.marshal_plans.proofs.Ranks.{rank}
 use Rattle.marshal_plans.proofs.putting.run.Given as goal
 
