@@ -1,7 +1,6 @@
 //! The worked values, the plans of two interfaces, and values at both ends of their ranges.
 use crate::{
-    Basic, Extent, GetFault, Instruction, Plan, PlanFault, PlanPair, Plans, PutFault, Value,
-    Values, compile, get, is_shallow, put,
+    GetFault, Plan, PlanPair, Plans, PutFault, Value, Values, compile, get, is_shallow, put,
 };
 use interface_text::{Ident, Interface, Procedure, Shape};
 use item_list::Items;
@@ -92,27 +91,43 @@ fn is_no_value(alloc: Global, shape: Shape, number: i128) -> Result<bool, Fail> 
 }
 
 #[test]
-fn the_arguments_of_add_are_put_and_got(rt: HostRuntime) -> Result<(), Fail> {
+fn the_arguments_of_add_are_put(rt: HostRuntime) -> Result<(), Fail> {
     let plan = add(rt.alloc())?;
     let values = vec![in rt.alloc(); Value::Number(1), Value::Number(2)]?;
     let mut room = [9; 9];
     assert_eq!(rt; put(&plan, &values, &mut room), Ok(8));
     assert_eq!(rt; room, [0, 0, 0, 1, 0, 0, 0, 2, 9]);
+    Ok(())
+}
+
+#[test]
+fn the_arguments_of_add_are_got(rt: HostRuntime) -> Result<(), Fail> {
+    let plan = add(rt.alloc())?;
     let back = get(rt.alloc(), &plan, &[0, 0, 0, 1, 0, 0, 0, 2])?;
     assert!(rt; matches!(back.as_slice(), [Value::Number(1), Value::Number(2)]));
     Ok(())
 }
 
 #[test]
-fn bytes_that_are_no_arguments_are_refused(rt: HostRuntime) -> Result<(), Fail> {
+fn other_numbers_of_bytes_are_refused(rt: HostRuntime) -> Result<(), Fail> {
     let plan = add(rt.alloc())?;
     let short = get(rt.alloc(), &plan, &[0, 0, 0, 1, 0, 0, 0]);
     assert!(rt; matches!(short, Err(GetFault::Short { at: 4 })));
     let left = get(rt.alloc(), &plan, &[0, 0, 0, 1, 0, 0, 0, 2, 0]);
     assert!(rt; matches!(left, Err(GetFault::Left { at: 8 })));
+    Ok(())
+}
+
+#[test]
+fn two_is_no_boolean(rt: HostRuntime) -> Result<(), Fail> {
     let boolean = plan_of(rt.alloc(), Shape::Bool)?;
     let two = get(rt.alloc(), &boolean, &[2]);
     assert!(rt; matches!(two, Err(GetFault::Range { at: 0 })));
+    Ok(())
+}
+
+#[test]
+fn a_count_is_at_most_its_limit(rt: HostRuntime) -> Result<(), Fail> {
     let many = plan_of(rt.alloc(), open(rt.alloc(), 2, Shape::Byte)?)?;
     let three = get(rt.alloc(), &many, &[0, 0, 0, 3, 7, 7, 7]);
     assert!(rt; matches!(three, Err(GetFault::Range { at: 0 })));
@@ -122,87 +137,157 @@ fn bytes_that_are_no_arguments_are_refused(rt: HostRuntime) -> Result<(), Fail> 
 }
 
 #[test]
-fn values_of_other_types_and_too_little_room_are_refused(rt: HostRuntime) -> Result<(), Fail> {
+fn values_of_other_types_are_refused(rt: HostRuntime) -> Result<(), Fail> {
     let plan = add(rt.alloc())?;
-    let mut room = [0; 7];
     let one = vec![in rt.alloc(); Value::Number(1)]?;
-    assert_eq!(rt; put(&plan, &one, &mut room), Err(PutFault::Shape));
-    let two = vec![in rt.alloc(); Value::Number(1), Value::Number(2)]?;
-    assert_eq!(rt; put(&plan, &two, &mut room), Err(PutFault::Room));
+    assert_eq!(rt; put(&plan, &one, &mut [0; 7]), Err(PutFault::Shape));
     let grouped = vec![in rt.alloc(); group(rt.alloc(), &[1, 2])?]?;
-    assert_eq!(rt; put(&plan, &grouped, &mut room), Err(PutFault::Shape));
+    assert_eq!(rt; put(&plan, &grouped, &mut [0; 7]), Err(PutFault::Shape));
     Ok(())
 }
 
 #[test]
-fn small_types_go_to_both_ends_of_their_ranges(rt: HostRuntime) -> Result<(), Fail> {
+fn too_little_room_is_refused(rt: HostRuntime) -> Result<(), Fail> {
+    let plan = add(rt.alloc())?;
+    let two = vec![in rt.alloc(); Value::Number(1), Value::Number(2)]?;
+    assert_eq!(rt; put(&plan, &two, &mut [0; 7]), Err(PutFault::Room));
+    Ok(())
+}
+
+#[test]
+fn a_boolean_is_0_or_1(rt: HostRuntime) -> Result<(), Fail> {
     let alloc = rt.alloc();
     assert!(rt; goes_both_ways(alloc, Shape::Bool, 0, &[0])?);
     assert!(rt; goes_both_ways(alloc, Shape::Bool, 1, &[1])?);
     assert!(rt; is_no_value(alloc, Shape::Bool, 2)?);
-    assert!(rt; goes_both_ways(alloc, Shape::Byte, 0, &[0])?);
-    assert!(rt; goes_both_ways(alloc, Shape::Byte, 255, &[255])?);
-    assert!(rt; is_no_value(alloc, Shape::Byte, 256)?);
-    assert!(rt; goes_both_ways(alloc, Shape::Choice(3), 0, &[0, 0])?);
-    assert!(rt; goes_both_ways(alloc, Shape::Choice(3), 2, &[0, 2])?);
-    assert!(rt; is_no_value(alloc, Shape::Choice(3), 3)?);
-    assert!(rt; goes_both_ways(alloc, Shape::Choice(65536), 65535, &[255, 255])?);
     Ok(())
 }
 
 #[test]
-fn large_types_go_to_both_ends_of_their_ranges(rt: HostRuntime) -> Result<(), Fail> {
+fn a_byte_is_0_to_255(rt: HostRuntime) -> Result<(), Fail> {
+    let alloc = rt.alloc();
+    assert!(rt; goes_both_ways(alloc, Shape::Byte, 0, &[0])?);
+    assert!(rt; goes_both_ways(alloc, Shape::Byte, 255, &[255])?);
+    assert!(rt; is_no_value(alloc, Shape::Byte, 256)?);
+    Ok(())
+}
+
+#[test]
+fn an_enumeration_is_its_ordinal(rt: HostRuntime) -> Result<(), Fail> {
+    let alloc = rt.alloc();
+    assert!(rt; goes_both_ways(alloc, Shape::Choice(3), 0, &[0, 0])?);
+    assert!(rt; goes_both_ways(alloc, Shape::Choice(3), 2, &[0, 2])?);
+    assert!(rt; is_no_value(alloc, Shape::Choice(3), 3)?);
+    Ok(())
+}
+
+#[test]
+fn a_cardinal_has_4_bytes(rt: HostRuntime) -> Result<(), Fail> {
     let alloc = rt.alloc();
     assert!(rt; goes_both_ways(alloc, Shape::Cardinal, 0, &[0; 4])?);
     assert!(rt; goes_both_ways(alloc, Shape::Cardinal, 4294967295, &[255; 4])?);
     assert!(rt; is_no_value(alloc, Shape::Cardinal, 4294967296)?);
+    Ok(())
+}
+
+#[test]
+fn an_integer_goes_down_to_its_least(rt: HostRuntime) -> Result<(), Fail> {
+    let alloc = rt.alloc();
     assert!(rt; goes_both_ways(alloc, Shape::Integer, -2147483648, &[128, 0, 0, 0])?);
     assert!(rt; goes_both_ways(alloc, Shape::Integer, -1, &[255; 4])?);
-    assert!(rt; goes_both_ways(alloc, Shape::Integer, 2147483647, &[127, 255, 255, 255])?);
     assert!(rt; is_no_value(alloc, Shape::Integer, -2147483649)?);
+    Ok(())
+}
+
+#[test]
+fn an_integer_goes_up_to_its_greatest(rt: HostRuntime) -> Result<(), Fail> {
+    let alloc = rt.alloc();
+    assert!(rt; goes_both_ways(alloc, Shape::Integer, 2147483647, &[127, 255, 255, 255])?);
     assert!(rt; is_no_value(alloc, Shape::Integer, 2147483648)?);
+    Ok(())
+}
+
+#[test]
+fn a_longcard_has_8_bytes(rt: HostRuntime) -> Result<(), Fail> {
+    let alloc = rt.alloc();
     assert!(rt; goes_both_ways(alloc, Shape::LongCard, 0, &[0; 8])?);
     assert!(rt; goes_both_ways(alloc, Shape::LongCard, 18446744073709551615, &[255; 8])?);
     assert!(rt; is_no_value(alloc, Shape::LongCard, 18446744073709551616)?);
     Ok(())
 }
 
-#[test]
-fn an_array_of_records_is_put_and_got(rt: HostRuntime) -> Result<(), Fail> {
-    let alloc = rt.alloc();
+/// An array of two records of a BYTE and a LONGCARD.
+fn records(alloc: Global) -> Result<Plan, Fail> {
     let element = Shape::Fields(vec![in alloc; Shape::Byte, Shape::LongCard]?);
-    let plan = plan_of(alloc, array(alloc, 2, element)?)?;
+    plan_of(alloc, array(alloc, 2, element)?)
+}
+
+const RECORDS: [u8; 18] = [1, 0, 0, 0, 0, 0, 0, 0, 2, 3, 0, 0, 0, 0, 0, 0, 0, 4];
+
+#[test]
+fn an_array_of_records_is_put(rt: HostRuntime) -> Result<(), Fail> {
+    let alloc = rt.alloc();
+    let plan = records(alloc)?;
     let elements = vec![in alloc; group(alloc, &[1, 2])?, group(alloc, &[3, 4])?]?;
     let values = vec![in alloc; Value::Group(Values::new(elements))]?;
-    let mut room = [9; 19];
+    let mut room = [9; 18];
     assert_eq!(rt; put(&plan, &values, &mut room), Ok(18));
-    let bytes = [1, 0, 0, 0, 0, 0, 0, 0, 2, 3, 0, 0, 0, 0, 0, 0, 0, 4];
-    assert_eq!(rt; room.get(..18), Some(bytes.as_slice()));
-    let back = get(alloc, &plan, &bytes)?;
-    let mut again = [9; 18];
-    assert_eq!(rt; put(&plan, &back, &mut again), Ok(18));
-    assert_eq!(rt; again, bytes);
+    assert_eq!(rt; room, RECORDS);
     Ok(())
 }
 
 #[test]
-fn bytes_and_numbers_are_the_same_values(rt: HostRuntime) -> Result<(), Fail> {
+fn an_array_of_records_is_got(rt: HostRuntime) -> Result<(), Fail> {
+    let plan = records(rt.alloc())?;
+    let back = get(rt.alloc(), &plan, &RECORDS)?;
+    let mut again = [9; 18];
+    assert_eq!(rt; put(&plan, &back, &mut again), Ok(18));
+    assert_eq!(rt; again, RECORDS);
+    Ok(())
+}
+
+/// The bytes 5 and 255 as one list of values.
+fn packed(alloc: Global) -> Result<Vec<Value>, AllocError> {
+    let bytes = Value::Group(Values::of_bytes(vec![in alloc; 5u8, 255]?));
+    Ok(vec![in alloc; bytes]?)
+}
+
+#[test]
+fn bytes_are_put_as_they_are(rt: HostRuntime) -> Result<(), Fail> {
     let alloc = rt.alloc();
     let text = plan_of(alloc, open(alloc, 9, Shape::Byte)?)?;
-    let packed = Value::Group(Values::of_bytes(vec![in alloc; 5u8, 255]?));
-    let values = vec![in alloc; packed]?;
     let mut room = [0; 6];
-    assert_eq!(rt; put(&text, &values, &mut room), Ok(6));
+    assert_eq!(rt; put(&text, &packed(alloc)?, &mut room), Ok(6));
     assert_eq!(rt; room, [0, 0, 0, 2, 5, 255]);
+    Ok(())
+}
+
+#[test]
+fn numbers_are_put_where_bytes_are_wanted(rt: HostRuntime) -> Result<(), Fail> {
+    let alloc = rt.alloc();
+    let text = plan_of(alloc, open(alloc, 9, Shape::Byte)?)?;
     let numbers = vec![in alloc; group(alloc, &[5, 255])?]?;
-    let mut other = [0; 6];
-    assert_eq!(rt; put(&text, &numbers, &mut other), Ok(6));
-    assert_eq!(rt; other, room);
+    let mut room = [0; 6];
+    assert_eq!(rt; put(&text, &numbers, &mut room), Ok(6));
+    assert_eq!(rt; room, [0, 0, 0, 2, 5, 255]);
+    Ok(())
+}
+
+#[test]
+fn bytes_are_put_where_numbers_are_wanted(rt: HostRuntime) -> Result<(), Fail> {
+    let alloc = rt.alloc();
     let wide = plan_of(alloc, array(alloc, 2, Shape::Cardinal)?)?;
-    let mut long = [9; 8];
-    assert_eq!(rt; put(&wide, &values, &mut long), Ok(8));
-    assert_eq!(rt; long, [0, 0, 0, 5, 0, 0, 0, 255]);
-    let back = get(alloc, &text, &room)?;
+    let mut room = [9; 8];
+    assert_eq!(rt; put(&wide, &packed(alloc)?, &mut room), Ok(8));
+    assert_eq!(rt; room, [0, 0, 0, 5, 0, 0, 0, 255]);
+    Ok(())
+}
+
+#[test]
+fn bytes_are_got_as_bytes(rt: HostRuntime) -> Result<(), Fail> {
+    let alloc = rt.alloc();
+    let text = plan_of(alloc, open(alloc, 9, Shape::Byte)?)?;
+    let back = get(alloc, &text, &[0, 0, 0, 2, 5, 255])?;
     let [Value::Group(got)] = back.as_slice() else {
         return Err(Fail::new("one group"));
     };
@@ -211,23 +296,30 @@ fn bytes_and_numbers_are_the_same_values(rt: HostRuntime) -> Result<(), Fail> {
     Ok(())
 }
 
-#[test]
-fn types_of_depth_16_are_compiled_and_no_deeper(rt: HostRuntime) -> Result<(), Fail> {
-    let alloc = rt.alloc();
+/// A CARDINAL in so many records.
+fn nested(alloc: Global, records: u32) -> Result<Shape, AllocError> {
     let mut shape = Shape::Cardinal;
-    for _level in 0..15 {
+    for _level in 0..records {
         shape = Shape::Fields(vec![in alloc; shape]?);
     }
-    let plan = plan_of(alloc, shape)?;
+    Ok(shape)
+}
+
+#[test]
+fn types_of_depth_16_are_compiled(rt: HostRuntime) -> Result<(), Fail> {
+    let alloc = rt.alloc();
+    let plan = plan_of(alloc, nested(alloc, 15)?)?;
     assert_eq!(rt; plan.as_slice().len(), 31);
     let back = get(alloc, &plan, &[0, 0, 0, 9])?;
     let mut room = [0; 4];
     assert_eq!(rt; put(&plan, &back, &mut room), Ok(4));
     assert_eq!(rt; room, [0, 0, 0, 9]);
-    let mut deep = Shape::Cardinal;
-    for _level in 0..16 {
-        deep = Shape::Fields(vec![in alloc; deep]?);
-    }
-    assert!(rt; !is_shallow(&one_argument(alloc, deep)?));
+    Ok(())
+}
+
+#[test]
+fn types_of_depth_17_are_told(rt: HostRuntime) -> Result<(), Fail> {
+    let deep = one_argument(rt.alloc(), nested(rt.alloc(), 16)?)?;
+    assert!(rt; !is_shallow(&deep));
     Ok(())
 }
