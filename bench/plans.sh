@@ -9,10 +9,10 @@ work=$(mktemp -d)
 trap 'rm -rf "$work"' EXIT
 
 mkdir -p "$work/crates/plans_bench/src"
-for crate in item_list interface_text marshal_plans; do
+for crate in item_list interface_tokens interface_text marshal_plans; do
     cp -r "crates/$crate" "$work/crates/"
 done
-grep -E '^(item_list|interface_text|marshal_plans):' crates.txt > "$work/crates.txt"
+grep -E '^(item_list|interface_tokens|interface_text|marshal_plans):' crates.txt > "$work/crates.txt"
 echo 'plans_bench: item_list interface_text marshal_plans anyhow' >> "$work/crates.txt"
 cat > "$work/crates/plans_bench/src/main.rt" <<'RATTLE'
 //! Times `put`, `get` and a copy of the same bytes, a line each.
