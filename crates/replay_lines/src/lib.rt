@@ -22,6 +22,7 @@ pub use counts::{Counts, put_end};
 pub use deliveries::{put_discard, put_frame, put_ready};
 pub use packets::put_packet;
 pub use runs::put_runs;
+pub use text::Print;
 pub use work::{put_idle, put_work};
 
 #[cfg(test)]
