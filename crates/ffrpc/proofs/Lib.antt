@@ -1,6 +1,9 @@
 pub mod Completeness
 pub mod Laws
+pub mod PlanLines
+pub mod Planning
 pub mod Playing
 pub mod Reading
 pub mod Saying
+pub mod Stubbing
 pub mod Words

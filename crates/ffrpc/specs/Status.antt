@@ -6,6 +6,7 @@ use Rattle.std.specs.declared.io.ErrorKind.TheVariants.{OutOfMemory}
 use Rattle.ff_io.specs.declared.reading.ReadAll.{ReadAll}
 use Rattle.ff_io.specs.declared.reading.ReadAll.TheVariants.{Failed, TooLong, Memory}
 use Rattle.script_text.specs.declared.fault.ScriptFault.{ScriptFault}
+use Rattle.interface_text.specs.declared.fault.TextFault.{TextFault}
 use Rattle.ffrpc.specs.declared.status.Status.{Status}
 use Rattle.ffrpc.specs.declared.status.Status.TheVariants as status
 
@@ -51,3 +52,7 @@ status_of_reading Memory = status.NoMemory
 -- where its text is no script: the number 0 stands for want of memory
 abbrev pub status_of_text : ScriptFault → Status
 status_of_text fault = if fault.number == 0 then status.NoMemory else status.BadText fault.line fault.number
+
+-- where it is no interface
+abbrev pub status_of_interface : TextFault → Status
+status_of_interface fault = if fault.number == 0 then status.NoMemory else status.BadText fault.line fault.number

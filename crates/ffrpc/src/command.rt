@@ -5,9 +5,11 @@ ghost use Rattle.std.specs.IoError.{error_kind};
 ghost use Rattle.ffrpc.specs.Outside.{input, output, WroteUnlessFailed};
 ghost use Rattle.ffrpc.specs.Replay.{Replays};
 ghost use Rattle.ffrpc.specs.Status.{fault_line, status_of_words};
+ghost use Rattle.ffrpc.specs.Stubs.{Stubs};
 
 use crate::replay::{end_with, run_replay};
 use crate::status::Status;
+use crate::stubs::run_stubs;
 use ff_io::{Sink, Source};
 use std::alloc::Global;
 use std::io;
@@ -20,8 +22,12 @@ pub fn run_words<S: Source, K: Sink>(
     sink: &mut K,
 ) -> Status
     // The words do what `ffrpc` does with them.
-    ensures usage { IfOk words (λ words. (result ≡ Status.Usage) ↔ ((map string_bytes words.items ≡ codes "replay" ∷ []) → ⊥)) }
+    ensures usage { IfOk words (λ words. (result ≡ Status.Usage)
+        ↔ (((map string_bytes words.items ≡ codes "replay" ∷ []) → ⊥) × ((map string_bytes words.items ≡ codes "stubs" ∷ []) → ⊥))) }
     ensures replays { IfOk words (λ words. map string_bytes words.items ≡ codes "replay" ∷ [] → Replays result
+        (input (S.left source.old) (S.faults source.old)) (input (S.left source.new) (S.faults source.new))
+        (output (K.written sink.old) (K.faults sink.old)) (output (K.written sink.new) (K.faults sink.new))) }
+    ensures stubs { IfOk words (λ words. map string_bytes words.items ≡ codes "stubs" ∷ [] → Stubs result
         (input (S.left source.old) (S.faults source.old)) (input (S.left source.new) (S.faults source.new))
         (output (K.written sink.old) (K.faults sink.old)) (output (K.written sink.new) (K.faults sink.new))) }
 
@@ -40,7 +46,7 @@ pub fn run_words<S: Source, K: Sink>(
     }
 }
 
-/// Does what the words behind the program's name ask for: `replay` is the one command.
+/// Does what the words behind the program's name ask for: `replay` and `stubs` are the commands.
 pub fn ffrpc<S: Source, K: Sink>(
     alloc: Global,
     words: &[String],
@@ -48,11 +54,15 @@ pub fn ffrpc<S: Source, K: Sink>(
     sink: &mut K,
 ) -> Status
     // Other words are refused, and the source is left as it was.
-    ensures usage { (result ≡ Status.Usage) ↔ ((map string_bytes words.now ≡ codes "replay" ∷ []) → ⊥) }
+    ensures usage { (result ≡ Status.Usage)
+        ↔ (((map string_bytes words.now ≡ codes "replay" ∷ []) → ⊥) × ((map string_bytes words.now ≡ codes "stubs" ∷ []) → ⊥)) }
     ensures unread { result ≡ Status.Usage → source.new ≡ source.old }
     ensures usage_line { result ≡ Status.Usage → WroteUnlessFailed [] (fault_line Status.Usage)
         (output (K.written sink.old) (K.faults sink.old)) (output (K.written sink.new) (K.faults sink.new)) }
     ensures replays { map string_bytes words.now ≡ codes "replay" ∷ [] → Replays result
+        (input (S.left source.old) (S.faults source.old)) (input (S.left source.new) (S.faults source.new))
+        (output (K.written sink.old) (K.faults sink.old)) (output (K.written sink.new) (K.faults sink.new)) }
+    ensures stubs { map string_bytes words.now ≡ codes "stubs" ∷ [] → Stubs result
         (input (S.left source.old) (S.faults source.old)) (input (S.left source.new) (S.faults source.new))
         (output (K.written sink.old) (K.faults sink.old)) (output (K.written sink.new) (K.faults sink.new)) }
 
@@ -64,6 +74,8 @@ pub fn ffrpc<S: Source, K: Sink>(
 {
     if asks_for_replay(words) {
         run_replay(alloc, source, sink)
+    } else if asks_for_stubs(words) {
+        run_stubs(alloc, source, sink)
     } else {
         end_with(sink, Status::Usage)
     }
@@ -75,6 +87,16 @@ fn asks_for_replay(words: &[String]) -> bool
 {
     match words {
         [word] => word.as_str() == "replay",
+        _ => false,
+    }
+}
+
+/// Whether the words are the one word `stubs`.
+fn asks_for_stubs(words: &[String]) -> bool
+    ensures { IsTrue result ↔ (map string_bytes words.now ≡ codes "stubs" ∷ []) }
+{
+    match words {
+        [word] => word.as_str() == "stubs",
         _ => false,
     }
 }

@@ -3,9 +3,11 @@
 
 mod command;
 mod fault_line;
+mod plan_text;
 mod replay;
 mod status;
 mod streams;
+mod stubs;
 
 use command::run_words;
 use std::process::ExitCode;
