@@ -37,4 +37,6 @@ mod rows;
 #[cfg(test)]
 mod stream_tests;
 #[cfg(test)]
+mod stubs_tests;
+#[cfg(test)]
 mod tests;

@@ -21,9 +21,9 @@ const ROOM: usize = 65_536;
 #[derive(Clone, Copy)]
 pub struct Given<'a> {
     input: &'a [u8],
-    failing_reads: &'a [u64],
-    failing_writes: &'a [u64],
-    most: usize,
+    pub failing_reads: &'a [u64],
+    pub failing_writes: &'a [u64],
+    pub most: usize,
 }
 
 /// A run whose outside never fails.
