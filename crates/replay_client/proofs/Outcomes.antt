@@ -2,6 +2,7 @@
 -- does it.
 use Rattle.std.proofs.Common.{◌≡◌, ℕ, ◌+◌, ◌≤◌, ◌<◌, List, [], ◌∷◌, Option, Some, None, true, false, ap, sym, subst, ◌∙◌, refl}
 use Rattle.std.proofs.lemmas.Bool.{cond-true, cond-false, le-leb, lt-leb, le-ltb, lt-ltb}
+use Rattle.rpc_header.specs.declared.Activity.{Activity}
 use Rattle.call_rules.specs.Packet.{Call, Packet}
 use Rattle.binder.specs.Interfaces.{bind_data}
 use Rattle.call_rules.specs.Caller.{is_idle, current_call}
@@ -108,16 +109,17 @@ unfolding skip_by
 skip_by-past w machine process c l by h idle past =
     ap (λ (o : Option Line). skip_by w machine process c o by) h ∙ (cond-true _ _ _ idle ∙ cond-false _ _ _ (lt-leb _ _ past))
 
-pub skip_by-skips : (w : World) (machine process : ℕ) (c after : Client) (l new : Line) (by next : ℕ) → numbered 1 c.lines process ≡ Some l → is_idle l.caller.state ≡ true → next ≡ l.next + by → next ≤ last_number → new ≡ record l { next = next } → after ≡ with_line c process new → skip_by w machine process c (numbered 1 c.lines process) by
-    ≡ record { world = with_client w machine after; acts = Skips l.caller.activity next ∷ [] }
+pub skip_by-skips : (w : World) (machine process : ℕ) (c after : Client) (l new : Line) (by next : ℕ) (activity : Activity) → numbered 1 c.lines process ≡ Some l → is_idle l.caller.state ≡ true → next ≡ l.next + by → next ≤ last_number → new ≡ record l { next = next } → activity ≡ l.caller.activity → after ≡ with_line c process new → skip_by w machine process c (numbered 1 c.lines process) by
+    ≡ record { world = with_client w machine after; acts = Skips activity next ∷ [] }
 unfolding skip_by
-skip_by-skips w machine process c after l new by next h idle en within is client =
+skip_by-skips w machine process c after l new by next activity h idle en within is ea client =
     ap (λ (o : Option Line). skip_by w machine process c o by) h
     ∙ (cond-true _ _ _ idle
     ∙ (ap (skips w machine process c l) (sym en)
     ∙ (cond-true _ _ _ (le-leb _ _ within)
-    ∙ ap (λ (x : Client). record { world = with_client w machine x; acts = Skips l.caller.activity next ∷ [] })
-    (sym (client ∙ ap (λ (x : Line). with_line c process x) is)))))
+    ∙ (ap (λ (x : Client). record { world = with_client w machine x; acts = Skips l.caller.activity next ∷ [] })
+    (sym (client ∙ ap (λ (x : Line). with_line c process x) is))
+    ∙ ap (λ (x : Activity). record { world = with_client w machine after; acts = Skips x next ∷ [] }) (sym ea)))))
 
 -- A restart.
 

@@ -46,4 +46,4 @@ returns-clause-outcome c w =
     rw (← c.self.view_is)
     (bind_by-started (record w { second = c.args.second }) c.args.me.machine c.args.process self line c.bind.new.self c.args.name.now _ c.in_ok-told.told _ some (sym c.is_idle.ensures ∙ c.if-not-is_idle.false) c.in-Some.ensures.1
     (ap (λ (i : ℕ). record self { read = c.args.second; lines = set items (i - 1) c.bind.new.self }) c.from-place.ensures)
-    c.in_ok.ensures.bytes c.in_ok-told.ensures)
+    c.in_ok-bind_data_of.ensures.bytes c.in_ok-told.ensures)
