@@ -39,7 +39,7 @@ arguments_of (word.MaxResult n) = big_bytes 4 n
 abbrev pub replies : ℕ → List ℕ → Served
 replies total reply = record { answer = record { signal = false; reply = reply }; total = total }
 
--- an exception, by its number of two bytes
+-- an exception, by its number, which is marshalled in two bytes
 abbrev pub raises : ℕ → ℕ → Served
 raises total exception = record { answer = record { signal = true; reply = 0 ∷ exception ∷ [] }; total = total }
 

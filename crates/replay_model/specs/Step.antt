@@ -238,7 +238,7 @@ show_event w k (Some p) = record { world = w; acts = Shows k (frame_of p) ∷ []
 
 -- The steps of workers.
 
--- what the exports' rows say to a packet
+-- the reason for which a packet is refused, by what the exports' rows say to it
 abbrev pub refusal : Verdict → Option ℕ
 refusal verdict.Accepted = None
 refusal verdict.WrongBinding = Some 1
