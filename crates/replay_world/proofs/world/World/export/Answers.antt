@@ -28,7 +28,7 @@ returns-in-Ok-clause-played c w h =
     let now : Server = c.export.new.self in
     let o : Outcome = export_event w c.args.name.now in
     let did = subst (λ (d : Result Export ExportFault). server.ExportsAs w now d o) c.in-Ok.is
-        (exported_in w s.second s.server now c.args.name.now c.in_ok-export.field-0 kept.second kept.server c.in_ok-export.ensures) in
+    (exported_in w s.second s.server now c.args.name.now c.in_ok-export.field-0 kept.second kept.server c.in_ok-export.ensures) in
     on_ok_weaker c.put_export.result (λ e. plays_as before after (record s { server = now }) w.records o _ did
     (plays_one before after (record s { server = now }) (record w { server = now }) w.records (Exports c.in-Ok.export) e (stands-server s w now now kept refl))) c.put_export.ensures
 
@@ -41,6 +41,6 @@ returns-in-Err-clause-played c w h =
     let now : Server = c.export.new.self in
     let o : Outcome = export_event w c.args.name.now in
     let did = subst (λ (d : Result Export ExportFault). server.ExportsAs w now d o) c.in-Err.is
-        (exported_in w s.second s.server now c.args.name.now c.in_ok-export.field-0 kept.second kept.server c.in_ok-export.ensures) in
+    (exported_in w s.second s.server now c.args.name.now c.in_ok-export.field-0 kept.second kept.server c.in_ok-export.ensures) in
     on_ok_weaker c.put_no_export.result (λ e. plays_as before after (record s { server = now }) w.records o _ did
     (plays_one before after (record s { server = now }) (record w { server = now }) w.records (NoExport c.in-Err.why) e (stands-server s w now now kept refl))) c.put_no_export.ensures

@@ -46,7 +46,7 @@ returns-in-None-clause-played c w h =
     let found = client_of s.clients w.clients m place old kept.clients (omega arith) c.from-place.ensures (omega (arith, c.self.inside.clients.ok.0)) c.index_mut.ensures.value in
     let by : Outcome = skip_by w m c.args.process found.client (numbered 1 found.client.lines c.args.process) c.args.by in
     let did : by ≡ impossible w = subst (λ (d : Option Skipped). client.SkipsAs w m now d by) c.in-None.is
-        (skipped_in w m c.args.process c.args.by found.client old now c.skip.result found.is_client c.skip.ensures.outcome) in
+    (skipped_in w m c.args.process c.args.by found.client old now c.skip.result found.is_client c.skip.ensures.outcome) in
     let same : now ≡ found.client = c.skip.ensures.impossible c.in-None.is ∙ found.is_client in
     let stands = stands-clients s w (set s.clients place now) w.clients kept (clients_same s.clients w.clients place now found.client now kept.clients refl same found.at_place) in
     on_ok_weaker c.put_impossible-in-None.result (λ e. plays_as before after (record s { clients = set s.clients place now }) w.records _ (impossible w)
@@ -67,7 +67,7 @@ returns-in-Some-clause-played c w h =
     let found = client_of s.clients w.clients m place old kept.clients (omega arith) c.from-place.ensures (omega (arith, c.self.inside.clients.ok.0)) c.index_mut.ensures.value in
     let by : Outcome = skip_by w m c.args.process found.client (numbered 1 found.client.lines c.args.process) c.args.by in
     let did = subst (λ (d : Option Skipped). client.SkipsAs w m now d by) c.in-Some.is
-        (skipped_in w m c.args.process c.args.by found.client old now c.skip.result found.is_client c.skip.ensures.outcome) in
+    (skipped_in w m c.args.process c.args.by found.client old now c.skip.result found.is_client c.skip.ensures.outcome) in
     let stands = stands-clients s w (set s.clients place now) (set w.clients (m - 2) now) kept (clients_with s.clients w.clients m place now now kept.clients refl c.from-place.ensures) in
     on_ok_weaker c.put_skipped.result (λ e. plays_as before after (record s { clients = set s.clients place now }) w.records _ _
     (skip_event-some w m c.args.process _ found.client c.args.by found.there ∙ did)
