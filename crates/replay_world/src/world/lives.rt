@@ -82,10 +82,10 @@ impl World {
         if place >= self.clients.len() {
             return put_impossible(out);
         }
-        match self.clients[place].skip(process, by) {
-            None => put_impossible(out),
-            Some(skipped) => put_skipped(out, skipped.activity, skipped.next),
-        }
+        let Some(skipped) = self.clients[place].skip(process, by) else {
+            return put_impossible(out);
+        };
+        put_skipped(out, skipped.activity, skipped.next)
     }
 
     /// The server exports the test service by a name.
@@ -99,10 +99,11 @@ impl World {
             (step.export_event w name.now)) }
         ensures few { OnOk result (RoseByAtMost 1 self.old self.new) }
     {
-        match self.server.export(alloc, *name, self.second)? {
-            Ok(export) => put_export(out, export),
-            Err(why) => put_no_export(out, why),
-        }
+        let export = match self.server.export(alloc, *name, self.second)? {
+            Ok(export) => export,
+            Err(why) => return put_no_export(out, why),
+        };
+        put_export(out, export)
     }
 
     /// The server takes the export of a name back.
@@ -111,10 +112,10 @@ impl World {
             (step.withdraw_event w name.now)) }
         ensures few { OnOk result (RoseByAtMost 1 self.old self.new) }
     {
-        match self.server.withdraw(*name) {
-            None => put_impossible(out),
-            Some(index) => put_withdrawn(out, index),
-        }
+        let Some(index) = self.server.withdraw(*name) else {
+            return put_impossible(out);
+        };
+        put_withdrawn(out, index)
     }
 
     /// A machine boots anew.
@@ -130,10 +131,9 @@ impl World {
         ensures few { OnOk result (RoseByAtMost 1 self.old self.new) }
     {
         if machine == SERVER_MACHINE {
-            self.restart_server(alloc, out)
-        } else {
-            self.restart_client(alloc, machine, out)
+            return self.restart_server(alloc, out);
         }
+        self.restart_client(alloc, machine, out)
     }
 
     fn restart_server(&mut self, alloc: Global, out: &mut Vec<u8>) -> Result<(), AllocError>
@@ -141,11 +141,11 @@ impl World {
             (step.boots_server w)) }
         ensures few { OnOk result (RoseByAtMost 1 self.old self.new) }
     {
-        if self.server.restart(alloc, self.second)? {
-            put_restarted(out, SERVER_MACHINE, self.second)
-        } else {
-            put_impossible(out)
+        let booted = self.server.restart(alloc, self.second)?;
+        if !booted {
+            return put_impossible(out);
         }
+        put_restarted(out, SERVER_MACHINE, self.second)
     }
 
     fn restart_client(
@@ -163,10 +163,10 @@ impl World {
         if place >= self.clients.len() {
             return put_impossible(out);
         }
-        if self.clients[place].restart(alloc, machine, self.second)? {
-            put_restarted(out, machine, self.second)
-        } else {
-            put_impossible(out)
+        let booted = self.clients[place].restart(alloc, machine, self.second)?;
+        if !booted {
+            return put_impossible(out);
         }
+        put_restarted(out, machine, self.second)
     }
 }

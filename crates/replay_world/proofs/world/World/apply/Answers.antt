@@ -1,4 +1,4 @@
-use Rattle.std.proofs.Common.{List, ℕ, ◌++◌, ◌≤◌, ap, ◌∙◌, lit≤}
+use Rattle.std.proofs.Common.{List, ℕ, ◌++◌, ap, ◌∙◌, lit≤}
 use Rattle.std.proofs.lemmas.Result.{on_ok_weaker}
 use Rattle.replay_model.specs.Record.{ListsRuns, Ends, counts_of}
 use Rattle.replay_model.specs.Lines.{end_line}

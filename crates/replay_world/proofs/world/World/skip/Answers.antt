@@ -1,21 +1,17 @@
-use Rattle.std.proofs.Common.{◌≡◌, ℕ, ◌-◌, ◌≤◌, List, ◌++◌, Bool, true, false, Option, Some, None, Result, Ok, Err, length, set, ap, sym, subst, refl, ◌∙◌, arith}
+use Rattle.std.proofs.Common.{◌≡◌, ℕ, ◌-◌, ◌≤◌, List, Option, length, set, sym, subst, refl, ◌∙◌, arith}
 use Rattle.std.proofs.lemmas.Result.{on_ok_weaker}
-use Rattle.rpc_header.specs.declared.Export.{Export}
-use Rattle.binder.specs.declared.row.ExportFault.{ExportFault}
-use Rattle.replay_model.specs.Record.{Impossible, Seconds, Exports, NoExport, Withdraws, Restarts, Skips}
-use Rattle.replay_model.specs.Lines.{lines_of_act}
-use Rattle.replay_model.specs.World.{World, Server, Client, numbered}
-use Rattle.replay_model.specs.Step.{Outcome, impossible, with_client, skip_by, boots_client, boots_server, export_event, withdraw_event, second_event}
+use Rattle.replay_model.specs.Record.{Impossible, Skips}
+use Rattle.replay_model.specs.World.{Client, numbered}
+use Rattle.replay_model.specs.Step.{Outcome, impossible, with_client, skip_by}
 use Rattle.replay_client.specs.declared.machine.Skipped.{Skipped}
 use Rattle.replay_client.specs.Client as client
-use Rattle.replay_server.specs.Lives as server
 use Rattle.replay_world.specs.Stored.{Stored}
 use Rattle.replay_world.specs.Stands.{Stands, IsClient}
 use Rattle.replay_world.specs.contracts.world.World.{the_view}
-use Rattle.replay_world.proofs.Machines.{skipped_in, client_boots_in, exported_in, withdrawn_in, server_boots_in}
+use Rattle.replay_world.proofs.Machines.{skipped_in}
 use Rattle.replay_world.proofs.Numbered.{numbered-none}
-use Rattle.replay_world.proofs.WorldSteps.{skip_event-none, skip_event-some, second_event-late, second_event-passes, restart_event-server, restart_event-client}
-use Rattle.replay_world.proofs.Standing.{plays_one, plays_as, stands-second, stands-server, stands-clients, client_of, clients_with, clients_same}
+use Rattle.replay_world.proofs.WorldSteps.{skip_event-none, skip_event-some}
+use Rattle.replay_world.proofs.Standing.{plays_one, plays_as, stands-clients, client_of, clients_with, clients_same}
 use Rattle.replay_world.proofs.Zips.{zip-length}
 use Rattle.replay_world.proofs.world.World.skip.Goals as goal
 
@@ -33,28 +29,28 @@ returns-then-place-len-clause-played c w h =
     (skip_event-none w m c.args.process _ c.args.by (numbered-none 2 w.clients m (omega arith) past))
     (plays_one before after s w w.records Impossible e kept)) c.put_impossible.ensures)
 
-pub returns-in-None-clause-played : goal.returns-in-None-clause-played
-returns-in-None-clause-played c w h =
+pub returns-in_default-clause-played : goal.returns-in_default-clause-played
+returns-in_default-clause-played c w h =
     let s : Stored = the_view c.self.inside in
     let before : List ℕ = c.args.out.now.items in
     let kept : Stands s w = subst (λ (x : Stored). Stands x w) (sym c.self.view_is) h in
-    let after : List ℕ = c.put_impossible-in-None.new.out.items in
+    let after : List ℕ = c.put_impossible-in_default.new.out.items in
     let m : ℕ = c.args.machine in
     let place : ℕ = c.from-place.result in
     let old : Client = c.index_mut.result.now in
     let now : Client = c.skip.new.self in
     let found = client_of s.clients w.clients m place old kept.clients (omega arith) c.from-place.ensures (omega (arith, c.self.inside.clients.ok.0)) c.index_mut.ensures.value in
     let by : Outcome = skip_by w m c.args.process found.client (numbered 1 found.client.lines c.args.process) c.args.by in
-    let did : by ≡ impossible w = subst (λ (d : Option Skipped). client.SkipsAs w m now d by) c.in-None.is
+    let did : by ≡ impossible w = subst (λ (d : Option Skipped). client.SkipsAs w m now d by) c.in_default.is
     (skipped_in w m c.args.process c.args.by found.client old now c.skip.result found.is_client c.skip.ensures.outcome) in
-    let same : now ≡ found.client = c.skip.ensures.impossible c.in-None.is ∙ found.is_client in
+    let same : now ≡ found.client = c.skip.ensures.impossible c.in_default.is ∙ found.is_client in
     let stands = stands-clients s w (set s.clients place now) w.clients kept (clients_same s.clients w.clients place now found.client now kept.clients refl same found.at_place) in
-    on_ok_weaker c.put_impossible-in-None.result (λ e. plays_as before after (record s { clients = set s.clients place now }) w.records _ (impossible w)
+    on_ok_weaker c.put_impossible-in_default.result (λ e. plays_as before after (record s { clients = set s.clients place now }) w.records _ (impossible w)
     (skip_event-some w m c.args.process _ found.client c.args.by found.there ∙ did)
-    (plays_one before after (record s { clients = set s.clients place now }) w w.records Impossible e stands)) c.put_impossible-in-None.ensures
+    (plays_one before after (record s { clients = set s.clients place now }) w w.records Impossible e stands)) c.put_impossible-in_default.ensures
 
-pub returns-in-Some-clause-played : goal.returns-in-Some-clause-played
-returns-in-Some-clause-played c w h =
+pub returns-clause-played : goal.returns-clause-played
+returns-clause-played c w h =
     let s : Stored = the_view c.self.inside in
     let before : List ℕ = c.args.out.now.items in
     let kept : Stands s w = subst (λ (x : Stored). Stands x w) (sym c.self.view_is) h in
