@@ -1,6 +1,6 @@
 //! The long texts that calls and replies of the test service carry.
 
-ghost use Rattle.std.specs.Prelude.{◌≡◌, ◌≤◌, IfOk};
+ghost use Rattle.std.specs.Prelude.{◌≡◌, ◌≤◌, ◌+◌, length, IfOk};
 ghost use Rattle.replay_model.specs.Service.{counted_text};
 
 use byteorder::{BigEndian, ByteOrder};
@@ -14,7 +14,8 @@ const PERIOD: u32 = 251;
 /// only where memory is short.
 pub fn counted_text(alloc: Global, count: u32) -> Result<Vec<u8>, AllocError>
     requires { count ≤ LARGEST_TEXT }
-    ensures { IfOk result (λ text. text.items ≡ counted_text count) }
+    ensures text { IfOk result (λ text. text.items ≡ counted_text count) }
+    ensures length { IfOk result (λ text. length text.items ≡ 4 + count) }
 {
     let mut front = [0; 4];
     BigEndian::write_u32(&mut front, count);

@@ -1,5 +1,5 @@
 -- The bytes so far stand behind the count.
-use Rattle.std.proofs.Common.{◌≡◌, ℕ, ◌++◌}
+use Rattle.std.proofs.Common.{◌≡◌, ◌++◌}
 use Rattle.replay_model.specs.Service.{text_of}
 use Rattle.replay_packets.proofs.texts.counted_text.Given as goal
 
