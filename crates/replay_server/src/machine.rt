@@ -3,7 +3,7 @@
 ghost use Rattle.std.specs.Prelude.{◌≡◌, ◌≤◌, ◌+◌, ◌*◌, ◌<◌, List, [], ◌∷◌, ◌++◌, length, Some, None, unwrap_or, replicate, nat_lt, slice_set, slice_get, IfOk, MatchOption, if◌then◌else◌};
 ghost use Rattle.std.specs.Option.{option_map};
 ghost use Rattle.rpc_header.specs.Spelling.{HasSpelling};
-ghost use Rattle.binder.specs.Exports.{booted, exported};
+ghost use Rattle.binder.specs.Exports.{booted, exported, look_up, withdrawn};
 ghost use Rattle.call_rules.specs.Packet.{Packet};
 ghost use Rattle.call_rules.specs.Entry as entry;
 ghost use Rattle.call_rules.specs.Worker as rules;
@@ -120,7 +120,6 @@ impl ServerMachine {
 
     /// Exports the test service by a name, in a second, which the server has read then, also where it refuses. `Err`
     /// of the outer result only where memory is short.
-    #[tactic(auto, using(crate::proofs::Outcomes::exported_outcome, crate::proofs::Outcomes::refused_outcome))]
     pub fn export(
         &mut self,
         alloc: Global,
@@ -135,13 +134,11 @@ impl ServerMachine {
     }
 
     /// Takes the export of a name back, and gives its index, or `None` exactly where the name isn't exported.
-    #[tactic(auto, using(crate::proofs::Outcomes::withdrawn_outcome, crate::proofs::Outcomes::kept_outcome))]
     pub fn withdraw(&mut self, name: Name) -> Option<u16>
         ensures { (w : World) → WithdrawsAs (record w { server = self.old }) self.new result
             (step.withdraw_event (record w { server = self.old }) name) }
     {
-        let export = self.exports.withdraw(&test_name(name))?;
-        Some(export.index)
+        withdraw_name(&mut self.exports, test_name(name))
     }
 
     /// Boots anew in a second, and answers whether it did: not where it has read the second already. `Err` only where
@@ -311,6 +308,15 @@ fn export_name(
         Err(ExportFault::Memory) => Err(AllocError),
         exported => Ok(exported),
     }
+}
+
+/// Takes the export of a name back, if there is one, and gives its index.
+fn withdraw_name(exports: &mut Exports, name: InterfaceName) -> Option<u16>
+    ensures index { result ≡ option_map (λ (export : Export). export.index) (look_up exports.old.rows name) }
+    ensures exports { exports.new ≡ withdrawn exports.old name }
+{
+    let export = exports.withdraw(&name)?;
+    Some(export.index)
 }
 
 /// The name that the test service boots with.
