@@ -42,7 +42,7 @@ impl<L: PoolLaw> Pool<L> {
         requires seat { IsSeatOf (board_of self) seat }
         requires empty { HoldsNothing (held seat) }
         ensures out { MatchResult result (λ _. WasOut L.holds 0 (view seat)) (λ still. (still.2 ≢ 0) × WasOut L.holds still.2 (view seat)) }
-        ensures closed { MatchResult result (λ closed. Ended L.holds (layout_in self) (told_out 0 (view seat)) closed.words closed.buffers) (λ still. (board_of still.0 ≡ board_of self) × IsSameSeat seat still.1 × (view still.1 ≡ told_out still.2 (view seat)) × (held still.1 ≡ held seat)) }
+        ensures closed { MatchResult result (λ closed. Ended L.holds (layout_in self) (number seat) (told_out 0 (view seat)) closed.words closed.buffers) (λ still. (board_of still.0 ≡ board_of self) × IsSameSeat seat still.1 × (view still.1 ≡ told_out still.2 (view seat)) × (held still.1 ≡ held seat)) }
     {
         let Pool { board, layout } = self;
         match board.close(seat) {
