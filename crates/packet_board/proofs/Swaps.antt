@@ -23,7 +23,7 @@ use Rattle.packet_board.proofs.Slots.{counted_key, gone_held}
 use Rattle.packet_board.proofs.Brings.{outs, one_buffer, still_ready}
 use Rattle.packet_board.proofs.Cells.{cell_there, cells_set, out_kept}
 use Rattle.packet_board.proofs.Packs.{unpacked_apart}
-use Rattle.packet_board.proofs.Turns.{seen_of, looks_again}
+use Rattle.packet_board.proofs.Turns.{not_first, seen_of, looks_again}
 use Rattle.packet_board.proofs.Flows.{flows, apart, none_not_some, same_number, takes_from, length_placed, placed_here, placed_else, map_placed, keys_after, held_after, giving, taking}
 
 taken_room : (k : Layout) (t : Option ℕ) (found : Option Buffer) → Found k t found → (n : ℕ) → 1 ≤ names n t → n < buffers_of k
@@ -74,6 +74,7 @@ module _ {N : Type 0} where
         of_layout = λ j u e l. ⊎_elim (λ p. subst (λ (z : View N). z.layout ≡ k) p.1 (sound.of_layout id v at live)) (λ p. sound.of_layout j u p.1 l) (at_set vs id j w u e);
         idle = λ j u e l. ⊎_elim (λ p. absurd (true≢false (sym live ∙ (ap (λ (z : View N). z.live) p.1 ∙ l)))) (λ p. sound.idle j u p.1 l) (at_set vs id j w u e);
         lonely = λ j u e l. ⊎_elim (λ p. let a = sound.lonely id v at (ap (λ (z : View N). z.alone) p.1 ∙ l) in (a.0, ap (λ (z : View N). z.pending) (sym p.1) ∙ a.1, ap (λ (z : View N). z.live) (sym p.1) ∙ a.2)) (λ p. sound.lonely j u p.1 l) (at_set vs id j w u e);
+        untouched = λ u e l z. absurd (not_first vs id v w u (λ y e' l' z'. (sound.untouched y e' l' z').one_seat) at (omega arith) e l z);
       }
 
   given_buffer : (v : View N) (c : Slots) (k : Layout) (g : Option ℕ) → Ready v c → v.layout ≡ k → CanGive g (lookup c) → (n : ℕ) → g ≡ Some n → (1 ≤ times n v.hands) × ((y : Buffer) × (given_by g (lookup c) ≡ Some y) × (n < buffers_of k) × IsBuffer k n y)
