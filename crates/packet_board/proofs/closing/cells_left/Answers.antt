@@ -1,5 +1,4 @@
-use Rattle.std.proofs.Common.{arith, ap, sym, subst, ◌∙◌, ◌≡◌, ⊎_elim, ℕ, ◌++◌, ◌∷◌, []}
-use mathlib.Core.Option.{some}
+use Rattle.std.proofs.Common.{arith, ap, sym, subst, ◌∙◌, ⊎_elim, ℕ, ◌++◌, ◌∷◌, []}
 use lib.ListN.{get_elem?}
 use Rattle.atomic_table.proofs.Lists.{at_snoc}
 use Rattle.std.specs.Slots.{slots_items}
