@@ -1,5 +1,5 @@
 -- What contracts say of packets that are posted and claimed.
-use Rattle.std.specs.Prelude.{◌≡◌, ◌≢◌, ℕ, ◌+◌, ◌<◌, ◌≤◌, ◌⊎◌, Option, Some, None}
+use Rattle.std.specs.Prelude.{◌≡◌, ◌≢◌, ℕ, ◌<◌, ◌≤◌, ◌⊎◌}
 use Rattle.packet_board.specs.declared.word.Word.{Word}
 use Rattle.packet_board.specs.declared.layout.Layout.{Layout}
 use Rattle.packet_board.specs.declared.buffer.Buffer.{Buffer}
@@ -10,7 +10,7 @@ use Rattle.packet_board.specs.Laws.{Law}
 use Rattle.packet_pool.specs.declared.item.Item.{Item}
 use Rattle.packet_pool.specs.declared.packet.NoPacket.{NoPacket}
 use Rattle.packet_pool.specs.declared.packet.NoPacket.TheVariants.{Empty, Lost}
-use Rattle.packet_pool.specs.Cells.{IsReadyCell, ready_word, item, HasPacket, IsReadyWord}
+use Rattle.packet_pool.specs.Cells.{IsReadyCell, ready_word, item, HasPacket}
 use Rattle.packet_pool.specs.Packets.{IsSeen, OnlyLooked, HasNow}
 
 -- the word of a ready cell waits behind a packet of that order in that other cell, or has no packet

@@ -1,6 +1,5 @@
 use Rattle.std.proofs.Common.{ℕ, refl, sym, ap, ◌∙◌, subst, ◌≡◌, ◌<◌, None, Result, Ok, Err, IfOk}
 use mathlib.Core.Option.{some}
-use Rattle.packet_board.specs.declared.view.View.{View}
 use Rattle.packet_board.specs.Words.{empty}
 use Rattle.packet_board.specs.Hands.{updated, IsUnstowed}
 use Rattle.packet_board.specs.Views.{exchanged}
@@ -8,7 +7,7 @@ use Rattle.packet_board.specs.Seats.{view, held, number}
 use Rattle.packet_board.proofs.Held.{out_one, if_err}
 use Rattle.packet_pool.specs.declared.packet.NoPacket.{NoPacket}
 use Rattle.packet_pool.specs.Cells.{ready_word, item}
-use Rattle.packet_pool.specs.Packets.{layout_in, number_of, content}
+use Rattle.packet_pool.specs.Packets.{layout_in, content}
 use Rattle.packet_pool.specs.Waiting.{Claims, NoneClaimed, AreBehind}
 use Rattle.packet_pool.proofs.Seen.{is_now, by_exchange}
 use Rattle.packet_pool.proofs.Least.{behind_now}

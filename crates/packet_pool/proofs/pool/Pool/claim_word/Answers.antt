@@ -1,4 +1,4 @@
-use Rattle.std.proofs.Common.{refl, sym, ap, ◌∙◌, subst, Some, None, ◌<◌, Option}
+use Rattle.std.proofs.Common.{refl, sym, ap, ◌∙◌, subst, None, ◌<◌, Option}
 use mathlib.Core.Option.{some, some-injective}
 use Rattle.atomic_table.proofs.Lists.{at_map}
 use Rattle.packet_board.specs.declared.buffer.Buffer.{Buffer}

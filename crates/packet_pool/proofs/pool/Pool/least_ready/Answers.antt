@@ -1,6 +1,5 @@
-use Rattle.std.proofs.Common.{arith, ap, ◌∙◌, subst, sym, ◌≡◌, ◌≤◌, ◌<◌, ◌+◌, ℕ, IfSome}
+use Rattle.std.proofs.Common.{arith, ap, ◌∙◌, subst, sym, ◌≤◌, ◌<◌, ◌+◌, ℕ, IfSome}
 use Rattle.packet_board.specs.Words.{buffers_of}
-use Rattle.packet_board.specs.Views.{looked}
 use Rattle.packet_board.specs.Seats.{view}
 use Rattle.packet_pool.specs.Cells.{IsReadyWord}
 use Rattle.packet_pool.specs.Packets.{layout_in, OnlyLooked, IsSeen}

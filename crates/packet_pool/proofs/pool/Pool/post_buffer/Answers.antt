@@ -1,9 +1,7 @@
-use Rattle.std.proofs.Common.{refl, ap, ◌∙◌, subst, sym, ◌≡◌, ◌+◌, Some, None}
+use Rattle.std.proofs.Common.{ap, ◌∙◌, subst, sym, ◌+◌, Some, None}
 use mathlib.Core.Option.{some, none}
-use Rattle.packet_board.specs.Hands.{updated}
 use Rattle.packet_board.specs.Words.{buffers_of}
 use Rattle.packet_board.specs.Seats.{view, held, number}
-use Rattle.packet_board.proofs.Held.{updated_here}
 use Rattle.packet_pool.specs.Cells.{ready_count, HasPacket}
 use Rattle.packet_pool.specs.Laws.{MayPost}
 use Rattle.packet_pool.specs.Packets.{layout_in, OnlyLooked, HasNow}

@@ -1,9 +1,7 @@
-use Rattle.std.proofs.Common.{rules, arith, ap, ◌∙◌, subst, sym, ◌≡◌, ◌+◌, Some}
-use mathlib.Core.Option.{some}
+use Rattle.std.proofs.Common.{rules, ap, ◌∙◌, subst, sym, ◌+◌}
 use Rattle.packet_board.specs.Words.{empty, buffers_of}
-use Rattle.packet_board.specs.Hands.{updated}
 use Rattle.packet_board.specs.Views.{exchanged, looked}
-use Rattle.packet_board.specs.Seats.{view, held}
+use Rattle.packet_board.specs.Seats.{view}
 use Rattle.packet_pool.specs.Cells.{ready_word, item, HasPacket}
 use Rattle.packet_pool.specs.Laws.{MayPost}
 use Rattle.packet_pool.specs.Packets.{layout_in, OnlyLooked}
