@@ -13,8 +13,8 @@ use Rattle.packet_board.specs.declared.view.View.{View}
 use Rattle.packet_board.specs.Words.{one_if, times, in_words, unpacked, cell_count}
 use Rattle.packet_board.specs.Hands.{flat}
 use Rattle.packet_board.specs.Views.{looked, begun, joined, landed, told_out, in_hands}
-use Rattle.packet_board.specs.Laws.{Homes, Sound, Law, Seen, Looks, Counts, Begins, Ends, Bounds, Sees}
-use Rattle.packet_board.specs.Rule.{Kept, Ready, Mine, cells_of, out_of, saw, counted, began, ended}
+use Rattle.packet_board.specs.Laws.{Homes, Sound, Law, Seen, WasAt, Looks, Counts, Begins, Ends, Bounds, Sees}
+use Rattle.packet_board.specs.Rule.{Kept, Ready, Mine, cells_of, out_of, at_word, saw, counted, began, ended}
 use Rattle.packet_board.proofs.Counts.{below, weigh_set, weigh_at, weigh_two, weigh_beside}
 use Rattle.packet_board.proofs.Cells.{cell_there, cells_kept, out_set, out_is}
 use Rattle.packet_board.proofs.Brings.{same_state}
@@ -69,6 +69,10 @@ module _ {N : Type 0} where
   pub seen_of : (holds : Law N) (k : Layout) (s : State (Option Buffer) (View N)) (id : ℕ) (v : View N) → Kept holds k s → get_elem? s.views id ≡ some v → v.live ≡ true → Seen holds k (cells_of s.words) (out_of s.words) s.homes s.views id v
   seen_of holds k s id v kept at live = record { sound = kept.stands.sound; lawful = kept.stands.lawful; seat = at; live = live }
 
+  pub was_at : (holds : Law N) (k : Layout) (s : State (Option Buffer) (View N)) (id : ℕ) (v : View N) (cell : ℕ) (word : Word) → Sound k (cells_of s.words) (out_of s.words) s.homes s.views
+      → Seen holds k (cells_of s.words) (out_of s.words) s.homes s.views id v → get_elem? (cells_of s.words) cell ≡ some word → WasAt holds cell word v
+  was_at holds k s id v cell word sound seen here = (cells_of s.words, out_of s.words, s.homes, s.views, id, subst (λ (l : Layout). Seen holds l (cells_of s.words) (out_of s.words) s.homes s.views id v) (sym (sound.of_layout id v seen.seat seen.live)) seen, here)
+
   -- a load that leaves words and slots, and another view
   reviewed : (holds : Law N) (k : Layout) (s : State (Option Buffer) (View N)) (i id : ℕ) (w : View N) → Kept holds k s → Sound k (cells_of s.words) (out_of s.words) s.homes (set s.views id w) → holds k (cells_of s.words) (map flat s.homes) (set s.views id w)
       → Kept holds k record { words = set s.words i (get_or s.words i 0); homes = s.homes; views = set s.views id w }
@@ -84,14 +88,14 @@ module _ {N : Type 0} where
       (looks k (cells_of s.words) (out_of s.words) s.homes s.views id v (i - 1) word (seen_of holds k s id v kept at live) here)
 
   pub loads : (holds : Law N) → Looks holds → (k : Layout) (slots id i : ℕ) (me : Mine N) (tells : View N → Word → Type 0) → 0 < i → i - 1 < cell_count k → Ready me.0 me.1 → Sees holds k id me.0 (i - 1) tells
-      → Allows (Kept holds k) slots id me i (λ r. r) (saw tells (step slots i 0 0 none) me)
+      → Allows (Kept holds k) slots id me i (λ r. r) (at_word holds (saw tells) (step slots i 0 0 none) me)
   loads holds looks k slots id i me tells pos room ready sees s kept _ at _ = let sound = kept.stands.sound in let seen = seen_of holds k s id me.0 kept at ready.live in
       let word : Word = unpacked (get_or s.words i 0) in let wide = sound.wide in let here = cell_there s.words i pos (subst (λ (z : ℕ). i - 1 < z) (sym wide) room) in let w : View N = looked me.0 (i - 1) word in (
         w,
         keeps,
         tt,
         looks_again holds looks k id i me.0 s kept at ready.live here,
-        (refl, sees (cells_of s.words) (out_of s.words) s.homes s.views word seen here),
+        ((refl, sees (cells_of s.words) (out_of s.words) s.homes s.views word seen here), was_at holds k s id me.0 (i - 1) word sound seen here),
       )
 
   pub counts_seats : (holds : Law N) → Counts holds → (k : Layout) (slots id : ℕ) (me : Mine N) → Ready me.0 me.1 → Allows (Kept holds k) slots id me 0 (λ r. r) (counted holds (step slots 0 0 0 none) me)

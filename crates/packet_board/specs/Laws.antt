@@ -66,6 +66,10 @@ module _ {N : Type 0} where
     abbrev pub WasOut : ℕ → View N → Type 0
     WasOut out v = (ws : List Word) × (hs : Homes) × (vs : List (View N)) × (id : ℕ) × Seen v.layout ws out hs vs id v
 
+    -- and with that word in that cell
+    abbrev pub WasAt : ℕ → Word → View N → Type 0
+    WasAt cell word v = (ws : List Word) × (out : ℕ) × (hs : Homes) × (vs : List (View N)) × (id : ℕ) × Seen v.layout ws out hs vs id v × (get_elem? ws cell ≡ some word)
+
     -- whatever the board is now, no step was made on it
     abbrev pub IsNewNow : Layout → ℕ → View N → Type 0
     IsNewNow k id v = (ws : List Word) (out : ℕ) (hs : Homes) (vs : List (View N)) → Seen k ws out hs vs id v → IsUntouched k ws hs vs
