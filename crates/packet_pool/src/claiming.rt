@@ -82,6 +82,7 @@ impl<L: PoolLaw> Pool<L> {
         ensures looked { OnlyLooked (view seat.old) (view seat.new) }
         ensures held { held seat.new ≡ held seat.old }
         ensures seen { (cell : ℕ) → IsReadyCell (layout_in self.now) cell → IsSeen (view seat.old).steps (view seat.new) cell (IsAfter result cell) }
+        ensures once { (view seat.new).steps ≡ (view seat.old).steps + ready_count (layout_in self.now) }
         ensures found { IfSome result (IsWaiting (layout_in self.now) (view seat.old).steps (view seat.new) (buffers_of (layout_in self.now) + ready_count (layout_in self.now))) }
     {
         let [count, _, _, _, _] = self.layout.rows;

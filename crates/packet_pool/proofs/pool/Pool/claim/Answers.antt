@@ -31,7 +31,7 @@ returns-in-Some-clause-claimed g c = let x = c.in-Some.chosen in let last = view
         order = x.order;
         cell = x.cell;
         last = last;
-        chosen = record { ready = (found.low, found.high); small = found.small; looked_on = o; seen = found.seen; least = c.in-Some.ensures.seen };
+        chosen = record { ready = (found.low, found.high); small = found.small; looked_on = o; seen = found.seen; once = c.least_ready.ensures.once; least = c.in-Some.ensures.seen };
         packet = is.1;
         after = is.2 ∙ ap (λ z. exchanged last x.cell (ready_word x.order x.number) empty (g.L.PoolLaw.with_claimed (item x.order x.cell (content packet)) z)) o.notes;
       },
@@ -56,7 +56,7 @@ returns-in-Some-clause-none g c = let x = c.in-Some.chosen in let last = view c.
         number = x.number;
         cell = x.cell;
         last = last;
-        chosen = record { ready = (found.low, found.high); small = found.small; looked_on = c.least_ready.ensures.looked; seen = found.seen; least = c.in-Some.ensures.seen };
+        chosen = record { ready = (found.low, found.high); small = found.small; looked_on = c.least_ready.ensures.looked; seen = found.seen; once = c.least_ready.ensures.once; least = c.in-Some.ensures.seen };
         other = lost.2;
         after = lost.3;
       },
