@@ -22,7 +22,7 @@ use call_rules::Seen;
 use replay_model::limits::{
     CLIENTS, FIRST_CLIENT, LAST_CLIENT, LAST_PROCESS, LAST_WORKER, READY_CELLS, SERVICE_PROCEDURES,
 };
-use replay_packets::{Arrived, Packet};
+use replay_packets::{Arrived, Packet, test_name};
 use rpc_header::{Activity, Export};
 use std::alloc::{AllocError, Global};
 use std::collections::VecDeque;
@@ -130,7 +130,7 @@ impl ServerMachine {
             (step.export_event (record w { server = self.old; second = second }) name)) }
     {
         self.read = second;
-        export_name(&mut self.exports, alloc, test_name(name), second)
+        export_name(&mut self.exports, alloc, test_name(&name), second)
     }
 
     /// Takes the export of a name back, and gives its index, or `None` exactly where the name isn't exported.
@@ -138,7 +138,7 @@ impl ServerMachine {
         ensures { (w : World) → WithdrawsAs (record w { server = self.old }) self.new result
             (step.withdraw_event (record w { server = self.old }) name) }
     {
-        withdraw_name(&mut self.exports, test_name(name))
+        withdraw_name(&mut self.exports, test_name(&name))
     }
 
     /// Boots anew in a second, and answers whether it did: not where it has read the second already. `Err` only where
@@ -323,17 +323,7 @@ fn withdraw_name(exports: &mut Exports, name: InterfaceName) -> Option<u16>
 fn main_name() -> InterfaceName
     ensures { result ≡ model.main_name }
 {
-    test_name(read_name(b"main").unwrap())
-}
-
-/// The names of a script are instances of one type.
-fn test_name(instance: Name) -> InterfaceName
-    ensures { result ≡ model.test_name instance }
-{
-    InterfaceName {
-        kind: read_name(b"Test").unwrap(),
-        instance,
-    }
+    test_name(&read_name(b"main").unwrap())
 }
 
 fn boot_entries(alloc: Global) -> Result<Vec<Entry>, AllocError>

@@ -14,7 +14,7 @@ pub returns-in_err-flush_full-clause-err : goal.returns-in_err-flush_full-clause
 returns-in_err-flush_full-clause-err g c =
     let st = c.in_ok-apply.ensures.step _ c.loop-event.invariant.playing.stands in
     let below : c.loop-event.event-index < length c.args.script.now.events = omega (arith, ap length c.as_slice-event-items.ensures) in
-    let after = Playing-event c.acts_print_whole_lines.ensures.acts c.acts_print_whole_lines.ensures.joins _ _ _ _ _ _ _ _ _ _ c.loop-event.invariant.playing below c.as_slice-event-items.ensures st.0 st.1 c.in_ok-apply.ensures.few in
+    let after = Playing-event c.acts_print_whole_lines.ensures.acts c.acts_print_whole_lines.ensures.joins _ _ _ _ _ _ _ _ _ _ c.loop-event.invariant.playing below c.as_slice-event-items.ensures c.event-item.is st.0 st.1 c.in_ok-apply.ensures.few in
     let part = c.in_err-flush_full.ensures.part in
     let p = err_from_is_err_and c.from_residual-in_err-flush_full.result c.from_residual-in_err-flush_full.ensures.1 in
     rw (p.1, p.2) (
@@ -26,7 +26,7 @@ pub loop-event-preserved : goal.loop-event-preserved
 loop-event-preserved g c =
     let st = c.in_ok-apply.ensures.step _ c.loop-event.invariant.playing.stands in
     let below : c.loop-event.event-index < length c.args.script.now.events = omega (arith, ap length c.as_slice-event-items.ensures) in
-    let after = Playing-event c.acts_print_whole_lines.ensures.acts c.acts_print_whole_lines.ensures.joins _ _ _ _ _ _ _ _ _ _ c.loop-event.invariant.playing below c.as_slice-event-items.ensures st.0 st.1 c.in_ok-apply.ensures.few in
+    let after = Playing-event c.acts_print_whole_lines.ensures.acts c.acts_print_whole_lines.ensures.joins _ _ _ _ _ _ _ _ _ _ c.loop-event.invariant.playing below c.as_slice-event-items.ensures c.event-item.is st.0 st.1 c.in_ok-apply.ensures.few in
     record {
       playing = Playing-flush c.acts_print_whole_lines.ensures.joins c.told_laws.ensures.appended_in_turn _ _ _ _ _ _ _ _ after c.in_ok-flush_full.ensures.ok c.in_ok-flush_full.ensures.still;
     }
