@@ -8,7 +8,7 @@ use std::alloc::AllocError;
 use std::fmt::{self, Display, Write};
 
 /// A text that is printed into.
-pub(crate) trait Print {
+pub trait Print {
     /// Appends a value as `{}` prints it, which takes memory only where the text grows. This is what `writeln!` calls.
     fn write_fmt<D: Display + Drop>(&mut self, value: D) -> Result<(), AllocError>;
 }
