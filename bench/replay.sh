@@ -7,7 +7,8 @@
 # little.
 # Where valgrind is found, the instructions of a line are counted first: for scripts of null calls of 7 lines each, by
 # the difference of two lengths, so that they don't depend on how busy the machine is. Then those of a script of losses
-# and repeats, in its first and in its second half: a line costs as much behind many lines as behind few.
+# and repeats, in its first and in its second half: a line costs as much behind many lines as behind few. Last those of
+# a packet in a script of the longest calls, in its first and in its second half too.
 set -eu
 cd "$(dirname "$0")/.."
 runs=${1:-200}
@@ -78,6 +79,27 @@ losses() {
         }'
 }
 
+# longest CALLS: calls of the longest arguments and of the longest results in turn, 64 pieces each. Each piece but the
+# last is acknowledged, and the acknowledgement brings the next one. 322 lines and 128 packets a call.
+longest() {
+    awk -v calls="$1" '
+        BEGIN {
+            for (made = 0; made < calls; made++) {
+                first = 128 * made + 1
+                print "call 2 1", (made % 2 ? "maxresult" : "maxarg"), 92156
+                for (packet = first; packet < first + 128; packet++) {
+                    print "deliver", packet
+                    if ((packet - first) % 2 == 1) continue
+                    steps = 3
+                    if (packet == first) steps = made % 2 ? 4 : 2
+                    if (packet == first + 126 && made % 2 == 0) steps = 5
+                    for (step = 0; step < steps; step++) print "work 1"
+                }
+            }
+            print "end"
+        }'
+}
+
 # instructions SCRIPT CALLS: of the program on that many calls of a script.
 instructions() {
     "$1" "$2" > "$work/calls"
@@ -95,6 +117,10 @@ if command -v valgrind > "$work/valgrind"; then
     half=$(instructions losses 650)
     many=$(instructions losses 1050)
     echo "with losses and repeats $(((half - few) / (18 * 400))) instructions a line, and $(((many - half) / (18 * 400))) behind 11,700 lines"
+    few=$(instructions longest 12)
+    half=$(instructions longest 36)
+    many=$(instructions longest 60)
+    echo "with the longest calls $(((half - few) / (128 * 24))) instructions a packet, and $(((many - half) / (128 * 24))) behind 4,600 packets"
 else
     echo "valgrind isn't found: instructions aren't counted"
 fi

@@ -17,7 +17,7 @@ pub data State : Type 0 where
   Binding : State
 
 -- final is the number of the last piece of the arguments. tries counts transmissions of what the caller
--- waits to have answered, and ticks the ticks since the last of them
+-- waits to have answered, and ticks the ticks since the last of them, or since what it sent was acknowledged
 pub record Caller : Type 0 where
   pub activity : Activity
   pub hint : ℕ

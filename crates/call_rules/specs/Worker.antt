@@ -1,7 +1,7 @@
 -- The rules of a worker: for its state, its packet and the entry of the packet's activity, the new worker state,
 -- the new entry where it changes, what the worker did, and what that adds: a run, a packet, or a rejection.
--- A body runs only for a number greater than the entry's, after Birrell and Nelson's RPC; the states are
--- this project's own. What the exports say, and whether the pool has a buffer, are arguments of the rows that ask.
+-- A call is begun or admitted only where the entry is empty or has a lesser number, after Birrell and Nelson's RPC; the
+-- states are this project's own. What the exports say, and whether the pool has a buffer, are arguments of the rows that ask.
 use Rattle.std.specs.Prelude.{ℕ, ◌+◌, List, [], ◌++◌, length, Option, Some, None, unwrap_or, is_some, Bool, true, false, not, ◌==◌, nat_lt, nat_le, if◌then◌else◌}
 use Rattle.rpc_header.specs.declared.Export.{Export}
 use Rattle.rpc_header.specs.declared.Kind.{Kind}

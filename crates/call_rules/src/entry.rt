@@ -28,7 +28,7 @@ pub enum Judged {
     Busy,
     /// The entry knows of no such call.
     Unknown,
-    /// A piece that comes before the first one.
+    /// A later piece, where the first has not come.
     Skipped,
     /// It is to be acknowledged.
     Ack,

@@ -30,8 +30,8 @@ impl Seen {
     }
 }
 
-/// The judgement of a packet by what is seen of its activity's entry. Only a Call, an Ack and a Probe are asked for;
-/// a packet of another kind is unknown.
+/// The judgement of a packet by what is seen of its activity's entry. It is older where its
+/// number is less than the entry's; else a packet that is no Call, Ack or Probe is unknown.
 pub fn judge(seen: Seen, header: &Header) -> Judged
     ensures { result ≡ rules.judge (rules.word_seen seen) (fields_of header.now) }
 {

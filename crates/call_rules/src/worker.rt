@@ -11,7 +11,7 @@ pub enum Unfit {
     Busy,
     /// The entry knows of no such call.
     Unknown,
-    /// A piece that comes before the one that is due.
+    /// A piece that isn't the one that is due.
     Skipped,
     /// Another worker was faster.
     Lost,

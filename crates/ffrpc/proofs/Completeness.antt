@@ -1,5 +1,5 @@
 -- Which status comes, where no call of the source or the sink failed.
-use Rattle.std.proofs.Common.{◌≡◌, ◌⊎◌, ◌≤◌, ◌<◌, List, ℕ, length, refl, ap, subst, inl, inr, arith}
+use Rattle.std.proofs.Common.{◌≡◌, ◌⊎◌, List, ℕ, refl, ap, subst, inl, inr, arith}
 use Rattle.std.specs.Prelude.{IfSome, None, Some}
 use Rattle.replay_model.specs.Script.{Script, IsScript}
 use Rattle.replay_model.specs.Transcript.{transcript}

@@ -1,5 +1,6 @@
 -- Laws of the crates below, as the proofs here are given them.
 use Rattle.std.proofs.Common.{◌≡◌, ℕ, List, [], ◌++◌, Option, None}
+use Rattle.std.specs.Prelude.{All}
 use Rattle.ff_io.specs.Told.{Appended}
 use Rattle.replay_model.specs.declared.event.Event.{Event}
 use Rattle.replay_model.specs.Lines.{EndsLine, lines_of}
@@ -7,12 +8,12 @@ use Rattle.replay_model.specs.Record.{Act}
 use Rattle.replay_model.specs.World.{first_world}
 use Rattle.replay_model.specs.Step.{run}
 use Rattle.replay_model.specs.Once.{Once}
-use Rattle.replay_model.specs.Script.{Script, IsScript}
+use Rattle.replay_model.specs.Script.{Script, IsScript, InRange}
 use Rattle.replay_model.specs.TextFault.{first_fault}
 
--- after any events Once holds
+-- after any events that a script can have Once holds
 abbrev pub OnceLaw : Type 0
-OnceLaw = (small long : ℕ) (events : List Event) → Once (run (first_world small long) events)
+OnceLaw = (small long : ℕ) (events : List Event) → All InRange events → Once (run (first_world small long) events)
 
 -- no text is two scripts
 abbrev pub OneReading : Type 0

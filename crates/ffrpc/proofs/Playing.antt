@@ -1,12 +1,14 @@
 -- A script that is being played: how far, what is kept and what was written.
+use Rattle.std.specs.Prelude.{All}
 use Rattle.std.proofs.Common.{◌≡◌, ◌⊎◌, ℕ, ◌+◌, ◌*◌, ◌<◌, List, [], ◌∷◌, ◌++◌, length, take, drop, get_or, refl, sym, ap, subst, ◌∙◌, inl, inr, append_assoc, append-nil, arith, add-one}
 use Rattle.std.proofs.Math.Seq.{take-length, take-suc}
 use Rattle.std.proofs.lemmas.List.{take-append-drop}
+use Rattle.std.proofs.lemmas.List.Elements.{All-take}
 use Rattle.replay_model.specs.declared.event.Event.{Event}
 use Rattle.replay_model.specs.Lines.{EndsLine}
 use Rattle.replay_model.specs.Record.{Counts, counts_of, no_records}
 use Rattle.replay_model.specs.World as model
-use Rattle.replay_model.specs.Script.{Script}
+use Rattle.replay_model.specs.Script.{Script, InRange}
 use Rattle.replay_model.specs.Step.{step, outcome, run}
 use Rattle.replay_model.specs.Transcript.{transcript, lines, lines_from}
 use Rattle.replay_world.specs.Stands.{Stands}
@@ -71,17 +73,16 @@ lines_end : WholeLines → (w : model.World) (e : Event) → EndsLine (lines w e
 unfolding lines
 lines_end whole w e = whole (outcome w e).acts
 
-pub Playing-event : WholeLines → LinesJoin → (s : Script) (i : ℕ) (world world' : Stored) (events : List Event) (d : Event) (out out' : List ℕ) (old new : Output)
-    → Playing s i world out old new → i < length s.events → events ≡ s.events
-    → out' ≡ out ++ lines (run (world_of s) (take i s.events)) (get_or events i d)
-    → Stands world' (step (run (world_of s) (take i s.events)) (get_or events i d)) → RoseByAtMost 1000 world world'
+pub Playing-event : WholeLines → LinesJoin → (s : Script) (i : ℕ) (world world' : Stored) (events : List Event) (e : Event) (out out' : List ℕ) (old new : Output)
+    → Playing s i world out old new → i < length s.events → events ≡ s.events → e ≡ get_or events i e
+    → out' ≡ out ++ lines (run (world_of s) (take i s.events)) e
+    → Stands world' (step (run (world_of s) (take i s.events)) e) → RoseByAtMost 1000 world world'
     → Playing s (i + 1) world' out' old new
-Playing-event whole joins s i world world' events d out out' old new p below same printed stands small =
-    let e : Event = get_or events i d in
+Playing-event whole joins s i world world' events e out out' old new p below same is printed stands small =
     let at : model.World = run (world_of s) (take i s.events) in
-    let one : e ∷ [] ≡ get_or s.events i d ∷ [] = ap (λ xs. get_or xs i d ∷ []) same in
+    let one : e ∷ [] ≡ get_or s.events i e ∷ [] = ap (λ x. x ∷ []) is ∙ ap (λ xs. get_or xs i e ∷ []) same in
     let next : take (i + 1) s.events ≡ take i s.events ++ e ∷ [] =
-    rw add-one (take-suc s.events i d below ∙ ap (λ x. take i s.events ++ x) (sym one)) in
+    rw add-one (take-suc s.events i e below ∙ ap (λ x. take i s.events ++ x) (sym one)) in
     let reached : run (world_of s) (take (i + 1) s.events) ≡ step at e =
     ap (run (world_of s)) next ∙ run-push (world_of s) (take i s.events) e in
     record {
@@ -121,9 +122,13 @@ Playing-flush joins turn s i world out out' old mid new p f still =
       small = p.small;
     }
 
+-- no events
+none_ranges : All InRange []
+none_ranges k d within = absurd (omega (arith, within))
+
 -- the lines of the events so far, cut in two
-part_of : OnceLaw → (s : Script) (i : ℕ) (shown more : List ℕ) → lines_from (world_of s) (take i s.events) ≡ shown ++ more → PlayedInPart s shown
-part_of law s i shown more printed =
+part_of : OnceLaw → (s : Script) → All InRange s.events → (i : ℕ) (shown more : List ℕ) → lines_from (world_of s) (take i s.events) ≡ shown ++ more → PlayedInPart s shown
+part_of law s ranges i shown more printed =
     let played : List Event = take i s.events in
     let later : List Event = drop i s.events in
     let parts : s.events ≡ played ++ later = sym (take-append-drop i s.events) in
@@ -137,7 +142,7 @@ part_of law s i shown more printed =
       rest = more ++ behind;
       front = ap (lines_from (world_of s)) parts ∙ lines_from-append (world_of s) played later ∙ ap (λ x. x ++ behind) printed
           ∙ append_assoc shown more behind;
-      once = law s.small s.long played;
+      once = law s.small s.long played (All-take InRange i s.events ranges);
     }
 
 -- nothing was played
@@ -150,7 +155,7 @@ nothing_played law s = record {
   printed = refl;
   rest = transcript s;
   front = refl;
-  once = law s.small s.long [];
+  once = law s.small s.long [] none_ranges;
 }
 
 pub nothing_shown : OnceLaw → Nothing → (s : Script) (x : Output) → WroteLines s x x
@@ -158,24 +163,24 @@ nothing_shown law nothing s x =
     record { shown = []; whole_lines = inl refl; of_script = nothing_played law s; written = nothing x.written; still = refl }
 
 -- memory ran out
-pub Playing-stop : OnceLaw → (s : Script) (i : ℕ) (world : Stored) (out : List ℕ) (old new : Output) → Playing s i world out old new → WroteLines s old new
-Playing-stop law s i world out old new p = record {
+pub Playing-stop : OnceLaw → (s : Script) → All InRange s.events → (i : ℕ) (world : Stored) (out : List ℕ) (old new : Output) → Playing s i world out old new → WroteLines s old new
+Playing-stop law s ranges i world out old new p = record {
   shown = p.shown;
   whole_lines = p.shown_ends;
-  of_script = part_of law s i p.shown out p.printed;
+  of_script = part_of law s ranges i p.shown out p.printed;
   written = p.written;
   still = p.still;
 }
 
 -- a write failed
-pub Playing-fail : OnceLaw → InTurn → (s : Script) (i : ℕ) (world : Stored) (out : List ℕ) (old mid new : Output) (n : ℕ)
+pub Playing-fail : OnceLaw → InTurn → (s : Script) → All InRange s.events → (i : ℕ) (world : Stored) (out : List ℕ) (old mid new : Output) (n : ℕ)
     → Playing s i world out old mid → Wrote (take n out) mid new → WroteFront s old new
-Playing-fail law turn s i world out old mid new n p part =
+Playing-fail law turn s ranges i world out old mid new n p part =
     let cut : p.shown ++ out ≡ (p.shown ++ take n out) ++ drop n out =
     ap (λ x. p.shown ++ x) (sym (take-append-drop n out)) ∙ sym (append_assoc p.shown (take n out) (drop n out)) in
     record {
       shown = p.shown ++ take n out;
-      of_script = part_of law s i (p.shown ++ take n out) (drop n out) (p.printed ∙ cut);
+      of_script = part_of law s ranges i (p.shown ++ take n out) (drop n out) (p.printed ∙ cut);
       written = turn p.shown (take n out) old.written mid.written new.written p.written part;
     }
 

@@ -1,5 +1,5 @@
 -- The text of a source that may not tell it.
-use Rattle.std.proofs.Common.{◌≡◌, ◌+◌, ◌<◌, ℕ, List, ◌++◌, length, Option, None, Some, refl, sym, ap, subst, ◌⊎◌, inl, inr, arith, length-append}
+use Rattle.std.proofs.Common.{◌≡◌, ◌+◌, ℕ, List, ◌++◌, length, Option, None, Some, refl, sym, ap, subst, ◌⊎◌, inl, inr, arith, length-append}
 use Rattle.std.specs.Prelude.{IfSome, unwrap_or, [], ◌==◌, if◌then◌else◌, true, false}
 use Rattle.ff_io.specs.Told.{Gave}
 use Rattle.ff_io.specs.declared.reading.ReadAll.{ReadAll}

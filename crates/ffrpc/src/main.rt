@@ -31,7 +31,17 @@ fn words_of<R: Env + AllocGlobal>(rt: &R) -> io::Result<Vec<String>> {
 }
 
 #[cfg(test)]
+mod life_rows;
+#[cfg(test)]
+mod life_tests;
+#[cfg(test)]
+mod long_rows;
+#[cfg(test)]
+mod long_tests;
+#[cfg(test)]
 mod loss_rows;
+#[cfg(test)]
+mod restart_tests;
 #[cfg(test)]
 mod rows;
 #[cfg(test)]

@@ -139,7 +139,7 @@ fn other_words_are_refused(rt: HostRuntime) -> Result<(), Fail> {
 }
 
 /// How a run over this text ends, and what it has written.
-fn refused(alloc: Global, text: &[u8]) -> Result<(u8, Vec<u8>), AllocError> {
+pub fn refused(alloc: Global, text: &[u8]) -> Result<(u8, Vec<u8>), AllocError> {
     let (status, written) = ran(alloc, &["replay"], &never_failing(text))?;
     Ok((status.number(), written))
 }
@@ -152,7 +152,7 @@ fn a_text_is_refused_at_its_first_fault(rt: HostRuntime) -> Result<(), Fail> {
         (b"end\njournal\n", "fault BadText 2 6\n"),
         (b"deliver 01\nend\n", "fault BadText 1 3\n"),
         (b"call 2 9 null\nend\n", "fault BadText 1 4\n"),
-        (b"journal\nskip\nend\n", "fault BadText 2 9\n"),
+        (b"journal\nholders\nend\n", "fault BadText 2 9\n"),
     ];
     for (text, line) in table {
         let (number, written) = refused(rt.alloc(), text)?;

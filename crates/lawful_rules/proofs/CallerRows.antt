@@ -1,21 +1,19 @@
--- Each row of the caller's rules that a packet or a start makes is a lawful act.
-use Rattle.std.proofs.Common.{◌≡◌, ◌≢◌, ℕ, ◌+◌, ◌-◌, ◌<◌, ◌≤◌, ◌^◌, List, [], ◌∷◌, ◌++◌, length, Some, Bool, true, false, cond, refl, ap, sym, ◌∙◌, subst, arith, eqb, eqb-true, ltb}
-use Rattle.std.specs.Prelude.{Contains, not, ◌==◌, ◌&&◌}
+-- Each row of the caller's rules that a packet makes is a lawful act.
+use Rattle.std.proofs.Common.{◌≡◌, ◌≢◌, ℕ, ◌+◌, ◌-◌, ◌<◌, ◌≤◌, List, [], ◌∷◌, ◌++◌, length, Some, Bool, true, false, cond, refl, ap, sym, ◌∙◌, subst, arith, eqb, eqb-true, ltb}
+use Rattle.std.specs.Prelude.{not, ◌==◌, ◌&&◌}
 use Rattle.std.proofs.lemmas.Bool.{false≢true, and_parts, eq-eqb, ltb-true}
-use Rattle.std.proofs.lemmas.List.Elements.{All-nil, All-cons, Contains-push}
+use Rattle.std.proofs.lemmas.List.Elements.{All-nil, All-cons}
 use Rattle.fragments.specs.Pieces.{last_piece, piece, front}
 use Rattle.rpc_header.specs.declared.Kind.{Kind}
 use Rattle.rpc_header.specs.declared.Kind.TheVariants as kind
 use Rattle.call_rules.specs.Packet.{Call, Packet, Fields, is_same_call}
-use Rattle.call_rules.specs.Caller.{Caller, State, Idle, Sending, Waiting, Receiving, Binding, Send, Keep, Last, TellsWaiting, Bound, Unbound, Refused, Step, is_idle, is_unused, current_call, first_sending, acknowledgement, row, unused, awaits_reply, on_start_call, on_ack, on_result, on_signal, on_reject, on_bound, on_own_packet, on_packet}
+use Rattle.call_rules.specs.Caller.{Caller, State, Idle, Sending, Waiting, Receiving, Binding, Send, Keep, Last, TellsWaiting, Bound, Unbound, Refused, Step, is_idle, is_unused, current_call, first_sending, acknowledgement, row, unused, awaits_reply, on_ack, on_result, on_signal, on_reject, on_bound, on_own_packet, on_packet}
 use Rattle.replay_model.specs.Once.{IsTransmission}
-use Rattle.replay_model.specs.Process.{Line, packet_from, ended, acts, takes_number, started, heard}
-use Rattle.replay_model.specs.Record.{Start}
-use Rattle.replay_model.specs.Step.{next_call}
-use Rattle.replay_model.specs.World.{number_limit, packet_at}
-use Rattle.lawful_rules.specs.Known.{Known, with_start}
+use Rattle.replay_model.specs.Process.{Line, packet_from, ended, acts, heard}
+use Rattle.replay_model.specs.World.{packet_at}
+use Rattle.lawful_rules.specs.Known.{Known}
 use Rattle.lawful_rules.specs.Facts.{HasLength, HasRun, CarriesPiece, IsReplyPiece, Answers, IsAnswer, HasRoom, IsCall, Receives, IsOpenIn, IsLine, AreAlike}
-use Rattle.lawful_rules.specs.Lawful.{ReplyGrounds, ByStart, ByPacket, LawfulAct}
+use Rattle.lawful_rules.specs.Lawful.{ReplyGrounds, ByPacket, LawfulAct}
 use Rattle.lawful_rules.proofs.Pieces.{PieceLaws, first_front, last_front, one_piece}
 use Rattle.lawful_rules.proofs.Judging.{same_call}
 use Rattle.lawful_rules.proofs.Framing.{no_bytes}
@@ -333,45 +331,3 @@ packet_lawful laws k m process l n p before g line answer there = go (is_same_ca
         (record { grounds = g; line = line; answer = answer; is_there = there; own_call = same_call p.header.call (current_call l.caller) e })
         p.header.kind refl answer.answers
     go false e = λ u. absurd (false≢true (sym u))
-
--- A start.
-
--- the process with its call started
-abbrev started_line : Line → (procedure : ℕ) → (arguments : List ℕ) → Line
-started_line l procedure arguments =
-    record (takes_number l arguments) { caller = (on_start_call l.caller l.next l.binding procedure (length arguments)).caller }
-
-pub start_lawful : PieceLaws → (k : Known) (m process second : ℕ) (l : Line) (procedure : ℕ) (arguments before : List ℕ) → IsLine k m process l → l.next < number_limit second → second < 2 ^ 32 → procedure < 256 ^ 2 → HasLength arguments → LawfulAct k l (ByStart (record { call = next_call l; export = l.binding; procedure = procedure; arguments = arguments })) before (started m l procedure arguments)
-unfolding started
-start_lawful laws k m process second l procedure arguments before h low early fits has =
-    record {
-      same_activity = refl;
-      has_room = room;
-      is_open = (record { was_started = is_listed; final_is = refl }, omega arith, refl);
-      next = (refl, refl, refl);
-      kept_open = λ o. tt;
-      marked = one_alike k.bag after.caller (first_sending after.caller 0) (packet_from m (first_sending after.caller 0) (piece arguments 0)) refl refl refl;
-      saying = record { request = piece_request laws (with_start k s) (not (0 == after.caller.final)) 0 (record { own_activity = h.own_activity; has_entry = h.has_entry; has_room = room }) (record { was_started = is_listed; final_is = refl }) (omega arith); own = refl };
-    }
-  where
-    s : Start
-    s = record { call = next_call l; export = l.binding; procedure = procedure; arguments = arguments }
-
-    after : Line
-    after = started_line l procedure arguments
-
-    is_listed : Contains (with_start k s).started s
-    is_listed = Contains-push k.started s
-
-    room : HasRoom (started_line l procedure arguments)
-    room =
-        record {
-          hint = h.has_room.hint;
-          number = omega (arith, low, early);
-          identifier = h.has_room.bound_identifier;
-          index = h.has_room.bound_index;
-          procedure = fits;
-          bound_identifier = h.has_room.bound_identifier;
-          bound_index = h.has_room.bound_index;
-          arguments = has;
-        }

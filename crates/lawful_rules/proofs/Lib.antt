@@ -5,4 +5,5 @@ pub mod WorkerSteps
 pub mod WorkerRows
 pub mod Sending
 pub mod CallerRows
+pub mod StartRows
 pub mod TickRows

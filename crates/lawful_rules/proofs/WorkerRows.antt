@@ -41,7 +41,6 @@ claimed_step {p = p} seen c =
       carries = own_carrier p;
       worker = c;
       alone = λ h. elim h [ inl x ↦ absurd (false≢true x) | inr y ↦ elim y [ inl x ↦ absurd (false≢true x) | inr x ↦ absurd (false≢true x) ] ];
-      handed = λ h n. absurd (false≢true h);
       entry = λ x h. absurd (none-some x h);
       adds = tt;
     }
@@ -290,7 +289,6 @@ admitted_lawful k f rows false p arguments answer e reply h g =
       carries = own_carrier p;
       worker = h;
       alone = λ x. inl refl;
-      handed = λ x n. refl;
       entry = λ x n. absurd (none-some x n);
       adds = tt;
     }
@@ -308,7 +306,6 @@ admitted_lawful k f rows true p arguments answer e reply h g =
         record { run = run_of p arguments answer; is_listed = Contains-push k.journal (run_of p arguments answer); same_call = refl; same_signal = refl; same_reply = refl },
       );
       alone = λ x. inl refl;
-      handed = λ x n. refl;
       entry = λ x n. absurd (none-some x n);
       adds = (record { same_call = refl; same_procedure = refl; was_admitted = refl; has_reply = reply }, refl);
     }

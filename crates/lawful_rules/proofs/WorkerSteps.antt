@@ -119,7 +119,6 @@ gives_back what adds runs lawful =
       carries = λ q h. absurd (none-some q h);
       worker = tt;
       alone = λ h. elim h [ inl x ↦ absurd (false≢true x) | inr y ↦ elim y [ inl x ↦ absurd (false≢true x) | inr x ↦ absurd (false≢true (sym runs ∙ x)) ] ];
-      handed = λ h n. absurd (false≢true h);
       entry = λ x h. absurd (none-some x h);
       adds = lawful;
     }
@@ -134,7 +133,6 @@ exchange {k} {f} {rows} {p} {v} {e} worker x what adds carries at alone is advan
       carries = carries;
       worker = at;
       alone = λ h. alone;
-      handed = λ h n. absurd (none-some x (sym n));
       entry = λ y h. subst (λ z. IsEntry (with_adds k rows adds) p.header.call.activity z × Advances (word_of e) (word_of z)) (same_Some x y h) (is, advances);
       adds = lawful;
     }

@@ -9,7 +9,7 @@ use Rattle.binder.specs.declared.row.ExportRow.{ExportRow}
 use Rattle.binder.specs.declared.row.Verdict.TheVariants as verdict
 use Rattle.binder.specs.declared.interface.InterfaceName.{InterfaceName}
 use Rattle.binder.specs.Exports.{accepts, look_up}
-use Rattle.call_rules.specs.Packet.{Packet}
+use Rattle.call_rules.specs.Packet.{Call, Packet}
 use Rattle.call_rules.specs.Entry.{Entry, Word, word_of}
 use Rattle.call_rules.specs.declared.entry.Phase.{Phase}
 use Rattle.call_rules.specs.declared.entry.Phase.TheVariants as phase
@@ -80,7 +80,6 @@ pub record LawfulStep (k : Known) (f : Life) (rows : List (Option ExportRow)) (p
   pub worker : IsWorkerAt (with_adds k rows s.adds) f s.worker (unwrap_or s.entry e)
   pub alone : (is_some s.entry ≡ true) ⊎ (owns s.worker ≡ true) ⊎ (is_run s.adds ≡ true) →
       (owns v ≡ true) ⊎ (is_owned (word_of e).phase ≡ false)
-  pub handed : owns s.worker ≡ true → s.entry ≡ None → owns v ≡ true
   pub entry : (x : Entry) → s.entry ≡ Some x → IsEntry (with_adds k rows s.adds) p.header.call.activity x × Advances (word_of e) (word_of x)
   pub adds : AreLawfulAdds k rows p v s.entry s.adds
 
@@ -91,21 +90,24 @@ pub record ReplyGrounds (k : Known) : Type 0 where
 
 -- A process's step.
 
--- by what a process comes to a step: a start of a call, packet n, or a tick
+-- by what a process comes to a step: a start of a call or of a bind, packet n, or a tick
 pub data Way : Type 0 where
   ByStart : Start → Way
+  ByBind : Call → Way
   ByPacket : (n : ℕ) → Packet → Way
   ByTick : Way
 
 -- what is known in the step
 abbrev pub known_by : Known → Way → Known
 known_by k (ByStart s) = with_start k s
+known_by k (ByBind call) = k
 known_by k (ByPacket n p) = k
 known_by k ByTick = k
 
 -- the packets that were sent since the last begin or counted packet, of which the way may be one
 abbrev pub sent_by : Way → List ℕ → List ℕ
 sent_by (ByStart s) before = []
+sent_by (ByBind call) before = []
 sent_by (ByPacket n p) before = []
 sent_by ByTick before = before
 
@@ -119,14 +121,17 @@ abbrev pub sent_after : Known → Said → List ℕ → List ℕ
 sent_after k (Sends p) before = next_packet k ∷ before
 sent_after k _ before = before
 
--- a start uses the next number
+-- a start of a call or of a bind uses the next number
 abbrev pub IsNext : Way → (old new : Line) → Type 0
+IsNext (ByBind call) old new =
+    (new.next ≡ old.next + 1) × (call ≡ record { activity = old.caller.activity; number = old.next }) × (current_call new.caller ≡ call)
 IsNext (ByStart s) old new = (new.next ≡ old.next + 1) × (s.call ≡ record { activity = old.caller.activity; number = old.next }) × (current_call new.caller ≡ s.call)
 IsNext _ old new = (new.next ≡ old.next) × (new.caller.number ≡ old.caller.number)
 
 -- a process that isn't idle after the step wasn't before, or has started
 abbrev pub IsKeptOpen : Way → (old : Line) → Type 0
 IsKeptOpen (ByStart s) old = Unit {0}
+IsKeptOpen (ByBind call) old = Unit {0}
 IsKeptOpen _ old = is_idle old.caller.state ≡ false
 
 -- the packet that came is a Reject of the call with this reason, which the server sent

@@ -5,24 +5,24 @@
 //! of the one function is the law.
 #![tactic(auto)]
 
-ghost use Rattle.std.specs.Prelude.{ℕ, ◌≡◌, ◌≢◌, ◌<◌, ◌^◌, List, [], Option, Some, Bool, true, false};
+ghost use Rattle.std.specs.Prelude.{ℕ, ◌≡◌, ◌≢◌, ◌<◌, ◌≤◌, ◌^◌, List, [], Option, Some, Bool, true, false, length};
 ghost use Rattle.rpc_header.specs.declared.Kind.TheVariants as kind;
 ghost use Rattle.binder.specs.declared.row.ExportRow.{ExportRow};
-ghost use Rattle.call_rules.specs.Packet.{Packet};
+ghost use Rattle.call_rules.specs.Packet.{Packet, piece_size};
 ghost use Rattle.call_rules.specs.Entry.{Entry, Word};
 ghost use Rattle.call_rules.specs.Worker.{Resting, Claimed, Took, Admitted, Ran, Fetched, Answer, on_idle, on_claimed, on_took, on_admitted, on_ran, on_fetched};
 ghost use Rattle.call_rules.specs.Caller.{is_idle, is_unused, on_packet, current_call};
-ghost use Rattle.replay_model.specs.Process.{Line, started, heard, ticked};
+ghost use Rattle.replay_model.specs.Process.{Line, started, binds, heard, ticked};
 ghost use Rattle.replay_model.specs.Step.{asked_of, next_call};
 ghost use Rattle.replay_model.specs.World.{number_limit, packet_at};
 ghost use Rattle.lawful_rules.specs.Known.{Known};
 ghost use Rattle.lawful_rules.specs.Facts.{Life, HasLength, HasReply, IsRequest, IsAnswer, IsWorkerAt, IsLine, IsMarked};
-ghost use Rattle.lawful_rules.specs.Lawful.{AreRows, Grounds, LawfulStep, ReplyGrounds, ByStart, ByPacket, ByTick, LawfulAct};
+ghost use Rattle.lawful_rules.specs.Lawful.{AreRows, Grounds, LawfulStep, ReplyGrounds, ByStart, ByBind, ByPacket, ByTick, LawfulAct};
 
 use fragments::{fronts_grow_by_a_piece, pieces_before_the_last_are_full};
 
 /// Each row of the rules is a lawful step: of a worker in each of its states, whatever the pool answers, and of a
-/// caller that starts a call, has a packet of its call, or ticks.
+/// caller that starts a call or a bind, has a packet, or ticks.
 pub fn rules_are_lawful()
     ensures idle { (k : Known) (f : Life) (rows : List (Option ExportRow)) (p : Packet) (e : Entry) →
         IsRequest k p → AreRows f rows → Grounds k f p.header.call.activity e →
@@ -48,6 +48,10 @@ pub fn rules_are_lawful()
         procedure < 256 ^ 2 → HasLength arguments →
         LawfulAct k l (ByStart (record { call = next_call l; export = l.binding; procedure = procedure; arguments = arguments })) before
         (started machine l procedure arguments) }
+    ensures bind { (k : Known) (machine process second : ℕ) (l : Line) (bytes before : List ℕ) →
+        IsLine k machine process l → is_idle l.caller.state ≡ true → l.next < number_limit second → second < 2 ^ 32 →
+        HasLength bytes → length bytes ≤ piece_size →
+        LawfulAct k l (ByBind (next_call l)) before (binds machine l bytes) }
     ensures packet { (k : Known) (machine process : ℕ) (l : Line) (n : ℕ) (p : Packet) (before : List ℕ) →
         ReplyGrounds k → IsLine k machine process l → IsAnswer k n p → packet_at k.bag n ≡ Some p →
         is_unused (on_packet l.caller p.header).act ≡ false →

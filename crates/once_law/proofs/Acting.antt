@@ -1,21 +1,21 @@
 -- The parts of the invariant that a lawful step of a process keeps, but for what is told.
-use Rattle.std.proofs.Common.{◌≡◌, ◌≢◌, ℕ, ◌<◌, List, [], ◌∷◌, ◌++◌, Option, Some, Bool, true, refl, ap, sym, ◌∙◌, subst, arith, inl, inr}
+use Rattle.std.proofs.Common.{◌≡◌, ◌≢◌, ℕ, ◌<◌, ◌≤◌, List, [], ◌∷◌, ◌++◌, Some, Bool, true, refl, ap, sym, ◌∙◌, subst, arith, inl, inr}
 use Rattle.std.specs.Prelude.{Contains}
 use Rattle.std.proofs.lemmas.List.Elements.{Contains-push_cases}
-use Rattle.binder.specs.declared.row.ExportRow.{ExportRow}
+use Rattle.binder.specs.Exports.{Exports}
 use Rattle.call_rules.specs.Entry.{Entry}
 use Rattle.call_rules.specs.Worker.{Run}
 use Rattle.call_rules.specs.Caller.{is_idle}
 use Rattle.replay_model.specs.Once.{sent_since}
 use Rattle.replay_model.specs.Process.{Line, LineStep, Said, Sends}
 use Rattle.replay_model.specs.Record.{Start, Return, Failure, Marked}
-use Rattle.replay_model.specs.World.{Client, line_at, is_entry_activity}
+use Rattle.replay_model.specs.World.{Client, numbered, with_numbered, line_at, is_entry_activity, number_limit}
 use Rattle.lawful_rules.specs.Known.{Known, Grows, next_packet, with_sent}
 use Rattle.lawful_rules.specs.Facts.{Life, IsSent, IsLine, IsMarked}
-use Rattle.lawful_rules.specs.Lawful.{Way, ByStart, ByPacket, ByTick, known_by, known_after, sent_by, sent_after, IsLawfulSaying, LawfulAct}
+use Rattle.lawful_rules.specs.Lawful.{Way, ByStart, ByBind, ByPacket, ByTick, known_by, known_after, sent_by, sent_after, IsLawfulSaying, LawfulAct}
 use Rattle.once_law.proofs.Lists.{members_push}
-use Rattle.once_law.proofs.Places.{Rewrites, rewritten, packet_cases}
-use Rattle.once_law.proofs.Parts.{Names, Lives, Lines, Marks, Sent, Entries, Told}
+use Rattle.once_law.proofs.Places.{Rewrites, rewritten, packet_cases, numbered_read, numbered_set}
+use Rattle.once_law.proofs.Parts.{Names, Reads, Lives, Lines, Marks, Sent, Entries, Told}
 use Rattle.once_law.proofs.Grows.{Grows-then, Grows-with_sent, Grows-known_by, Grows-known_after, IsRequest-grows, IsSent-grows, IsEntry-grows, IsLine-grows, IsMarked-grows}
 use Rattle.once_law.proofs.Sending.{marks_by, marks_after, own_sent, other_sent}
 
@@ -71,6 +71,14 @@ has_no_run at names told r c e =
     let x = told.runs_started r c in
     is_new at names x.start x.is_listed (x.same_call ∙ e)
 
+-- the next call of a process has no run, whether it is a bind's or not
+pub next_has_no_run : {k : Known} {cs ds : List Client} {m p : ℕ} {l : Line} {way : Way} {sent : List ℕ} {s : LineStep} {returns : List Return} {failures : List Failure} → IsAct k cs ds m p l way sent s → Names cs k.started → Told k returns failures → (r : Run) → Contains k.journal r → r.call ≢ record { activity = l.caller.activity; number = l.next }
+next_has_no_run {k} {cs} {ds} {m} {p} {l} at names told r c e =
+    let x = told.runs_started r c in
+    let same = x.same_call ∙ e in
+    let below : x.start.call.number < l.next = names.below_next m p l at.rewrites.was x.start x.is_listed (ap (λ d. d.activity) same) in
+    absurd (omega (arith, ap (λ d. d.number) same))
+
 -- each start of a call that ran was there before the step
 pub start_of_run : {k : Known} {cs ds : List Client} {m p : ℕ} {l : Line} (way : Way) {sent : List ℕ} {s : LineStep} {returns : List Return} {failures : List Failure} → IsAct k cs ds m p l way sent s → Names cs k.started → Told k returns failures → (said : Said) (r : Run) → Contains k.journal r → (x : Start) → Contains (known_acted k way said).started x → x.call ≡ r.call → Contains k.started x
 start_of_run {k} (ByStart t) at names told said r cr x cx e =
@@ -78,12 +86,13 @@ start_of_run {k} (ByStart t) at names told said r cr x cx e =
       | inl old ↦ old
       | inr new ↦ absurd (has_no_run at names told r cr (sym e ∙ ap (λ y. y.call) (sym new)))
     ]
+start_of_run {k} (ByBind call) at names told said r cr x cx e = subst (λ xs. Contains xs x) (started_after k said) cx
 start_of_run {k} (ByPacket n q) at names told said r cr x cx e = subst (λ xs. Contains xs x) (started_after k said) cx
 start_of_run {k} ByTick at names told said r cr x cx e = subst (λ xs. Contains xs x) (started_after k said) cx
 
 -- The parts.
 
-names_kept : {cs ds : List Client} {m p : ℕ} {old new : Line} {started : List Start} → Rewrites cs ds m p old new → new.next ≡ old.next → new.caller.activity ≡ old.caller.activity → Names cs started → Names ds started
+pub names_kept : {cs ds : List Client} {m p : ℕ} {old new : Line} {started : List Start} → Rewrites cs ds m p old new → old.next ≤ new.next → new.caller.activity ≡ old.caller.activity → Names cs started → Names ds started
 names_kept {cs} {ds} {m} {p} {old} {new} {started} w next activity h =
     record {
       below_next = rewritten w (λ n q j. (x : Start) → Contains started x → x.call.activity ≡ j.caller.activity → x.call.number < j.next)
@@ -105,20 +114,58 @@ Names-by {k} {cs} {ds} {m} {p} {l} (ByStart t) {sent} {s} at h =
           (λ x cx. members_push (λ y. x.call ≡ y.call → x ≡ y) k.started t (λ y cy e. h.one_start x y cx cy e) (λ e. absurd (is_new at h x cx e)))
           (members_push (λ y. t.call ≡ y.call → t ≡ y) k.started t (λ y cy e. absurd (is_new at h y cy (sym e))) (λ e. refl)) x cx y cy;
     }
-Names-by (ByPacket n q) at h = names_kept at.rewrites at.lawful.next.0 at.lawful.same_activity h
-Names-by ByTick at h = names_kept at.rewrites at.lawful.next.0 at.lawful.same_activity h
+Names-by (ByBind call) at h = names_kept at.rewrites (omega (arith, at.lawful.next.0)) at.lawful.same_activity h
+Names-by (ByPacket n q) at h = names_kept at.rewrites (omega (arith, at.lawful.next.0)) at.lawful.same_activity h
+Names-by ByTick at h = names_kept at.rewrites (omega (arith, at.lawful.next.0)) at.lawful.same_activity h
 
 pub Names-acted : {k : Known} {cs ds : List Client} {m p : ℕ} {l : Line} {way : Way} {sent : List ℕ} {s : LineStep} → IsAct k cs ds m p l way sent s → Names cs k.started → Names ds (known_acted k way s.said).started
 Names-acted {k} {cs} {ds} {m} {p} {l} {way} {sent} {s} at h =
     subst (Names ds) (sym (started_after (known_by k way) s.said)) (Names-by way at h)
 
-pub Lives-acted : {k : Known} {cs ds : List Client} {m p : ℕ} {l : Line} {way : Way} {sent : List ℕ} {s : LineStep} {returns : List Return} {failures : List Failure} (second : ℕ) (f : Life) (rows : List (Option ExportRow)) → IsAct k cs ds m p l way sent s → Names cs k.started → Told k returns failures → Lives second f rows k.started k.journal → Lives second f rows (known_acted k way s.said).started (known_acted k way s.said).journal
-Lives-acted {k} {cs} {ds} {m} {p} {l} {way} {sent} {s} second f rows at names told h =
+-- a client has read a later second, or the same
+pub reads_kept : (second : ℕ) (cs : List Client) (m : ℕ) (b d : Client) (started : List Start) → numbered 2 cs m ≡ Some b → b.read ≤ d.read → d.read ≤ second → Reads second cs started → Reads second (with_numbered 2 cs m d) started
+reads_kept second cs m b d started eb old new h =
+    let low : 2 ≤ m = (numbered_read 2 cs m b eb).0 in
+    record {
+      read_first = numbered_set (λ n (c : Client). c.read ≤ second) 2 cs m d low (λ n c g ne. h.read_first n c g) new;
+      below_read = numbered_set (λ n (c : Client). (x : Start) → Contains started x → x.call.activity.machine ≡ n → x.call.number < number_limit c.read) 2 cs m d low
+          (λ n c g ne. h.below_read n c g)
+          (λ x c e. let below : x.call.number < number_limit b.read = h.below_read m b eb x c e in omega (arith, below, old));
+    }
+
+-- the second by which a start has its number is one that its machine has read
+abbrev pub IsDated : Way → (m : ℕ) → Client → Type 0
+IsDated (ByStart t) m c = (t.call.activity.machine ≡ m) × (t.call.number < number_limit c.read)
+IsDated _ m c = Unit {0}
+
+reads_by : (k : Known) (second : ℕ) (cs : List Client) (m : ℕ) (b d : Client) (way : Way) → numbered 2 cs m ≡ Some b → b.read ≤ d.read → d.read ≤ second → IsDated way m d → Reads second cs k.started → Reads second (with_numbered 2 cs m d) (known_by k way).started
+reads_by k second cs m b d (ByStart t) eb old new dated h =
+    let low : 2 ≤ m = (numbered_read 2 cs m b eb).0 in
+    record {
+      read_first = numbered_set (λ n (c : Client). c.read ≤ second) 2 cs m d low (λ n c g ne. h.read_first n c g) new;
+      below_read = numbered_set (λ n (c : Client). (x : Start) → Contains (k.started ++ t ∷ []) x → x.call.activity.machine ≡ n → x.call.number < number_limit c.read) 2 cs m d low
+          (λ n c g ne. members_push (λ x. x.call.activity.machine ≡ n → x.call.number < number_limit c.read) k.started t (h.below_read n c g)
+          (λ e. absurd (ne (sym e ∙ dated.0))))
+          (members_push (λ x. x.call.activity.machine ≡ m → x.call.number < number_limit d.read) k.started t
+          (λ x c e. let below : x.call.number < number_limit b.read = h.below_read m b eb x c e in omega (arith, below, old))
+          (λ e. dated.1));
+    }
+reads_by k second cs m b d (ByBind call) eb old new dated h = reads_kept second cs m b d k.started eb old new h
+reads_by k second cs m b d (ByPacket n q) eb old new dated h = reads_kept second cs m b d k.started eb old new h
+reads_by k second cs m b d ByTick eb old new dated h = reads_kept second cs m b d k.started eb old new h
+
+pub Reads-acted : (k : Known) (second : ℕ) (cs : List Client) (m : ℕ) (b d : Client) (way : Way) (said : Said) → numbered 2 cs m ≡ Some b → b.read ≤ d.read → d.read ≤ second → IsDated way m d → Reads second cs k.started → Reads second (with_numbered 2 cs m d) (known_acted k way said).started
+Reads-acted k second cs m b d way said eb old new dated h =
+    subst (Reads second (with_numbered 2 cs m d)) (sym (started_after (known_by k way) said)) (reads_by k second cs m b d way eb old new dated h)
+
+pub Lives-acted : {k : Known} {cs ds : List Client} {m p : ℕ} {l : Line} {way : Way} {sent : List ℕ} {s : LineStep} {returns : List Return} {failures : List Failure} (second : ℕ) (f : Life) (exports : Exports) → IsAct k cs ds m p l way sent s → Names cs k.started → Told k returns failures → Lives second f exports k.started k.journal → Lives second f exports (known_acted k way s.said).started (known_acted k way s.said).journal
+Lives-acted {k} {cs} {ds} {m} {p} {l} {way} {sent} {s} second f exports at names told h =
     record {
       boot_first = h.boot_first;
       read_first = h.read_first;
       second_fits = h.second_fits;
-      rows = h.rows;
+      sound = h.sound;
+      next_read = h.next_read;
       runs_read = λ r cr x cx e.
           let old = run_back k way s.said r cr in
           h.runs_read r old x (start_of_run way at names told s.said r old x cx e) e;

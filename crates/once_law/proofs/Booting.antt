@@ -1,27 +1,25 @@
 -- The invariant holds of the first world.
-use Rattle.std.proofs.Common.{◌≡◌, ◌⊎◌, ℕ, zero, suc, ◌+◌, ◌-◌, ◌^◌, ◌<◌, ◌≤◌, List, [], ◌∷◌, map, replicate, Option, Some, None, Bool, true, false, cond, eqb, eqb-true, ltb, refl, ap, sym, ◌∙◌, subst, arith, inl, inr}
-use Rattle.std.specs.Prelude.{Contains, slice_get, slice_index_or}
-use Rattle.std.specs.Option.{option_map}
+use Rattle.std.proofs.Common.{◌≡◌, ℕ, zero, suc, ◌+◌, ◌-◌, ◌<◌, ◌≤◌, List, [], ◌∷◌, map, replicate, Some, refl, ap, sym, ◌∙◌, subst, arith}
+use Rattle.std.specs.Prelude.{Contains, slice_get}
 use Rattle.std.proofs.lemmas.Option.{none-some, same_Some, option_and_then_some}
 use Rattle.std.proofs.lemmas.Bool.Decides.{nat_tests}
 use Rattle.std.proofs.lemmas.List.{length-replicate}
 use Rattle.std.proofs.lemmas.List.Elements.{All-nil}
-use Rattle.rpc_header.specs.declared.Export.{Export}
-use Rattle.binder.specs.declared.row.ExportRow.{ExportRow}
-use Rattle.binder.specs.declared.row.Verdict.TheVariants as verdict
-use Rattle.binder.specs.Exports.{booted, row_at, binding_at, place_of, look_up, exported, accepts, judged}
 use Rattle.call_rules.specs.Entry.{Empty}
 use Rattle.call_rules.specs.Worker.{Worker, Resting}
 use Rattle.replay_model.specs.Once.{sent_since}
+use Rattle.call_rules.specs.Packet.{Packet}
 use Rattle.replay_model.specs.Process.{Line}
-use Rattle.replay_model.specs.World.{Client, numbered, entry_place, first_world, booted_client, booted_line, main_name, service_procedures}
+use Rattle.replay_model.specs.Record.{Marked}
+use Rattle.replay_model.specs.World.{Client, numbered, entry_place, first_world, booted_client, booted_line}
 use Rattle.lawful_rules.specs.Known.{Known, known}
 use Rattle.lawful_rules.specs.Facts.{IsEntry, IsLine, IsMarked, carrier}
-use Rattle.lawful_rules.specs.Lawful.{AreRows}
 use Rattle.once_law.proofs.Places.{EachLine, numbered_read, entry_at_read}
+use Rattle.once_law.proofs.Exporting.{boots_sound}
+use Rattle.once_law.proofs.Laws.{ExportLaws}
 use Rattle.once_law.proofs.Parts.{owned, Holds}
 
-none_in_empty : {A : Type 0} (x : A) → Contains [] x → ⊥
+pub none_in_empty : {A : Type 0} (x : A) → Contains [] x → ⊥
 none_in_empty x c = omega (arith, c.1)
 
 map_read : {A B : Type 0} (f : A → B) (xs : List A) (k : ℕ) (y : B) → slice_get (map f xs) k ≡ Some y → (x : A) × (slice_get xs k ≡ Some x) × (f x ≡ y)
@@ -29,7 +27,7 @@ map_read f [] k y h = absurd (none-some y h)
 map_read f (x ∷ xs) zero y h = (x, refl, same_Some (f x) y h)
 map_read f (x ∷ xs) (suc k) y h = map_read f xs k y h
 
-replicate_read : {A : Type 0} (n : ℕ) (a : A) (k : ℕ) (x : A) → slice_get (replicate n a) k ≡ Some x → x ≡ a
+pub replicate_read : {A : Type 0} (n : ℕ) (a : A) (k : ℕ) (x : A) → slice_get (replicate n a) k ≡ Some x → x ≡ a
 replicate_read zero a k x h = absurd (none-some x h)
 replicate_read (suc n) a zero x h = sym (same_Some a x h)
 replicate_read (suc n) a (suc k) x h = replicate_read n a k x h
@@ -80,8 +78,31 @@ booted_lines boot m p l h =
       is = sym (ap (λ a. booted_line boot a cp.0) em ∙ ap (booted_line boot m) ep) ∙ cp.2;
     })
 
+booted_clients : (boot m : ℕ) (c : Client) → numbered 2 (map (booted_client boot) (eight 2)) m ≡ Some c → c ≡ booted_client boot m
+booted_clients boot m c e =
+    let rm = numbered_read 2 (map (booted_client boot) (eight 2)) m c e in
+    let cm = map_read (booted_client boot) (eight 2) (m - 2) c rm.1 in
+    let xm = eight_read 2 (m - 2) cm.0 cm.1 in
+    let em : cm.0 ≡ m = omega (arith, xm.0, rm.0) in
+    sym cm.2 ∙ ap (booted_client boot) em
+
+-- each process of one client that boots
+pub booted_client_lines : (boot m : ℕ) → 2 ≤ m → m ≤ 9 → (p : ℕ) (l : Line) → numbered 1 (booted_client boot m).lines p ≡ Some l → IsBooted boot m p l
+booted_client_lines boot m low high p l h =
+    let rp = numbered_read 1 (map (booted_line boot m) (eight 1)) p l h in
+    let cp = map_read (booted_line boot m) (eight 1) (p - 1) l rp.1 in
+    let xp = eight_read 1 (p - 1) cp.0 cp.1 in
+    let ep : cp.0 ≡ p = omega (arith, xp.0, rp.0) in
+    record {
+      first_machine = low;
+      last_machine = high;
+      first_process = rp.0;
+      last_process = omega (arith, xp.1, rp.0);
+      is = sym (ap (booted_line boot m) ep) ∙ cp.2;
+    }
+
 -- a process that boots has nothing open, whatever is known
-booted_is_line : (k : Known) (boot m p : ℕ) (l : Line) → IsBooted boot m p l → IsLine k m p l
+pub booted_is_line : (k : Known) (boot m p : ℕ) (l : Line) → IsBooted boot m p l → IsLine k m p l
 booted_is_line k boot m p l b =
     let a : 2 ≤ m = b.first_machine in
     let c : m ≤ 9 = b.last_machine in
@@ -104,85 +125,34 @@ booted_is_line k boot m p l b =
       is_open = tt;
     })
 
--- Exports.
-
--- the export that a server boots with
-abbrev main_row : ℕ → ExportRow
-main_row boot = record { name = main_name; identifier = boot; procedures = service_procedures }
-
-same_everywhere : {A : Type 0} (a : A) (n i : ℕ) → slice_index_or (replicate n a) i a ≡ a
-same_everywhere a zero i = refl
-same_everywhere a (suc n) zero = refl
-same_everywhere a (suc n) (suc i) = same_everywhere a n i
-
--- a row of a server that boots is free, or the first, with that export
-first_rows : (boot i : ℕ) → (row_at (exported (booted boot) main_name service_procedures).rows i ≡ None) ⊎ ((i ≡ 0) × (row_at (exported (booted boot) main_name service_procedures).rows i ≡ Some (main_row boot)))
-unfolding exported
-first_rows boot zero = inr (refl, refl)
-first_rows boot (suc i) = inl (same_everywhere {A = Option ExportRow} None 15 i)
-
--- a row accepts its own identifier alone
-accepted_is : (row : ExportRow) (identifier procedure : ℕ) → judged (Some row) identifier procedure ≡ verdict.Accepted → row.identifier ≡ identifier
-accepted_is row identifier procedure = go (eqb row.identifier identifier) refl
-  where
-    go : (b : Bool) → eqb row.identifier identifier ≡ b → cond b (cond (ltb procedure row.procedures) verdict.Accepted verdict.NoProcedure) verdict.WrongBinding ≡ verdict.Accepted → row.identifier ≡ identifier
-    go true e h = eqb-true row.identifier identifier e
-    go false e h = absurd (cc)
-
-rows_accept : (boot : ℕ) (export : Export) (procedure : ℕ) → accepts (exported (booted boot) main_name service_procedures).rows export procedure ≡ verdict.Accepted → boot ≡ export.identifier
-unfolding accepts
-rows_accept boot export procedure h =
-    elim (first_rows boot export.index) [
-      | inl none ↦ absurd (refused (ap (λ row. judged row export.identifier procedure) (sym none) ∙ h))
-      | inr main ↦ accepted_is (main_row boot) export.identifier procedure (ap (λ row. judged row export.identifier procedure) (sym main.1) ∙ h)
-    ]
-  where
-    refused : judged None export.identifier procedure ≡ verdict.Accepted → ⊥
-    refused e = cc
-
-bindings_are : (boot i : ℕ) (export : Export) → binding_at (exported (booted boot) main_name service_procedures).rows i ≡ Some export → (boot ≡ export.identifier) × (0 ≡ export.index)
-bindings_are boot i export h =
-    elim (first_rows boot i) [
-      | inl none ↦ absurd (none-some export (ap bound (sym none) ∙ h))
-      | inr main ↦
-          let e = same_Some (record { identifier = boot; index = i }) export (ap bound (sym main.1) ∙ h) in
-          (ap (λ x. x.identifier) e, sym main.0 ∙ ap (λ x. x.index) e)
-    ]
-  where
-    bound : Option ExportRow → Option Export
-    bound row = option_map (λ (r : ExportRow). record { identifier = r.identifier; index = i }) row
-
--- what a server boots with is of its life
-booted_rows : (boot : ℕ) → boot < 2 ^ 32 → AreRows (record { boot = boot; read = boot }) (exported (booted boot) main_name service_procedures).rows
-unfolding look_up
-booted_rows boot low =
-    record {
-      accepted = λ export procedure h. let e = rows_accept boot export procedure h in (omega (arith, e), omega (arith, e));
-      found = λ name export h.
-          option_and_then_some {P = (export.identifier < 256 ^ 4) × (export.index < 256 ^ 2)}
-          (binding_at (exported (booted boot) main_name service_procedures).rows) (place_of (exported (booted boot) main_name service_procedures).rows name) export h
-          (λ i is at. let e = bindings_are boot i export at in (omega (arith, low, e.0), omega (arith, e.1)));
-    }
+-- what a process that boots has sent is no matter
+pub booted_marked : (bag : List Packet) (marks : List Marked) (boot m p : ℕ) (l : Line) → IsBooted boot m p l → IsMarked bag l.caller (sent_since l.caller.activity marks)
+booted_marked bag marks boot m p l b = subst (λ x. IsMarked bag x.caller (sent_since x.caller.activity marks)) b.is tt
 
 -- The world.
 
-first_worker : (i : ℕ) (v : Worker) → numbered 1 (replicate 4 Resting) i ≡ Some v → v ≡ Resting
+pub first_worker : (i : ℕ) (v : Worker) → numbered 1 (replicate 4 Resting) i ≡ Some v → v ≡ Resting
 first_worker i v g = replicate_read 4 Resting (i - 1) v (numbered_read 1 (replicate 4 Resting) i v g).1
 
-pub Holds-first : (small long : ℕ) → Holds (first_world small long)
-Holds-first small long =
+pub Holds-first : ExportLaws → (small long : ℕ) → Holds (first_world small long)
+Holds-first laws small long =
     record {
       names = record { below_next = λ m p l e s c. absurd (none_in_empty s c); one_start = λ s t c. absurd (none_in_empty s c) };
+      reads = record {
+        read_first = λ m c e. subst (λ (d : Client). d.read ≤ 1) (sym (booted_clients 1 m c e)) (omega arith);
+        below_read = λ m c e s g. absurd (none_in_empty s g);
+      };
       lives = record {
         boot_first = omega arith;
         read_first = omega arith;
         second_fits = omega arith;
-        rows = booted_rows 1 (omega arith);
+        sound = (boots_sound laws 1).0;
+        next_read = (boots_sound laws 1).1;
         runs_read = λ r c. absurd (none_in_empty r c);
       };
       lines = λ m p l e. booted_is_line (known (first_world small long)) 1 m p l (booted_lines 1 m p l e);
       unreturned = λ m p l e o x c. absurd (none_in_empty x c);
-      marks = λ m p l e. idle_marked m p l (booted_lines 1 m p l e);
+      marks = λ m p l e. booted_marked [] [] 1 m p l (booted_lines 1 m p l e);
       sent = λ n p e. absurd (none-some p (numbered_read 1 [] n p e).1);
       ready = λ p c. absurd (none_in_empty p c);
       workers = record {
@@ -207,6 +177,3 @@ Holds-first small long =
         failed = λ f c. absurd (none_in_empty f c);
       };
     }
-  where
-    idle_marked : (m p : ℕ) (l : Line) → IsBooted 1 m p l → IsMarked [] l.caller (sent_since l.caller.activity [])
-    idle_marked m p l b = subst (λ x. IsMarked [] x.caller (sent_since x.caller.activity [])) b.is tt

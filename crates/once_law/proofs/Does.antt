@@ -1,5 +1,5 @@
 -- Each lawful step of a process keeps the invariant.
-use Rattle.std.proofs.Common.{◌≡◌, ◌≢◌, ℕ, List, [], ◌∷◌, ◌++◌, map, Some, Bool, refl, ap, sym, ◌∙◌, subst, arith}
+use Rattle.std.proofs.Common.{◌≡◌, ◌≢◌, ℕ, ◌≤◌, List, [], ◌∷◌, ◌++◌, map, Some, Bool, refl, ap, sym, ◌∙◌, subst, arith}
 use Rattle.std.specs.Prelude.{Contains}
 use Rattle.std.proofs.lemmas.Bool.{both_ways}
 use Rattle.rpc_header.specs.declared.Activity.{Activity}
@@ -7,18 +7,18 @@ use Rattle.call_rules.specs.Packet.{Call}
 use Rattle.call_rules.specs.Caller.{is_idle, current_call}
 use Rattle.replay_model.specs.Once.{NoneTwice, call_of_run, call_of_return, sent_since, FailedFor}
 use Rattle.replay_model.specs.Process.{Line, LineStep, Said, SaysNothing, Sends, Waits, Returned, Fails, BindFails, BoundTo, NotBound}
-use Rattle.replay_model.specs.Record.{Return, Failure, Cause, Unanswered, RefusedFor, Marked, Heard, Starts, Hears}
+use Rattle.replay_model.specs.Record.{Return, Failure, Cause, Unanswered, RefusedFor, Marked, Heard, Starts, Binds, Hears}
 use Rattle.replay_model.specs.Step.{Outcome, behind, settled, with_line, does}
 use Rattle.replay_model.specs.World.{World, Client, numbered, with_numbered}
 use Rattle.lawful_rules.specs.Known.{Known, known, next_packet}
 use Rattle.lawful_rules.specs.Facts.{HasRun, Answers, IsRejection}
-use Rattle.lawful_rules.specs.Lawful.{Way, ByStart, ByPacket, ByTick, known_by, sent_by, IsNext, HasCause, IsLawfulSaying, LawfulAct}
+use Rattle.lawful_rules.specs.Lawful.{Way, ByStart, ByBind, ByPacket, ByTick, known_by, sent_by, IsNext, HasCause, IsLawfulSaying, LawfulAct}
 use Rattle.once_law.proofs.Lists.{members_push, none_twice_push}
 use Rattle.once_law.proofs.Places.{rewritten, rewrites}
 use Rattle.once_law.proofs.Parts.{life, Names, HasNoReturn, Unreturned, Told, Holds}
 use Rattle.once_law.proofs.Grows.{Grows-known_by, Grows-known_after, HasRun-grows, IsStartedRun-grows, IsRequest-grows, FailedFor-grows}
 use Rattle.once_law.proofs.Sending.{marks_by, marks_after}
-use Rattle.once_law.proofs.Acting.{IsAct, known_acted, Grows-acted, journal_is, run_back, is_other, has_no_run, Names-acted, Lives-acted, Lines-acted, Marks-acted, Sent-acted, Entries-acted}
+use Rattle.once_law.proofs.Acting.{IsAct, known_acted, Grows-acted, journal_is, run_back, is_other, has_no_run, next_has_no_run, IsDated, Names-acted, Reads-acted, Lives-acted, Lines-acted, Marks-acted, Sent-acted, Entries-acted}
 use Rattle.once_law.proofs.Owning.{Workers-known}
 
 -- What is recorded of what a process says.
@@ -40,6 +40,9 @@ own_unreturned : {k : Known} {cs ds : List Client} {m p : ℕ} {l : Line} (way :
 own_unreturned (ByStart t) at names told h opened x c e =
     let r = told.returns_run x c in
     has_no_run at names told r.run r.is_listed (r.same_call ∙ e ∙ at.lawful.next.2)
+own_unreturned (ByBind call) at names told h opened x c e =
+    let r = told.returns_run x c in
+    next_has_no_run at names told r.run r.is_listed (r.same_call ∙ e ∙ at.lawful.next.2 ∙ at.lawful.next.1)
 own_unreturned {k} {cs} {ds} {m} {p} {l} (ByPacket n q) {sent} {s} at names told h opened x c e =
     h m p l at.rewrites.was (at.lawful.kept_open opened) x c (e ∙ same_call l s.line at.lawful.next.1 at.lawful.same_activity)
 own_unreturned {k} {cs} {ds} {m} {p} {l} ByTick {sent} {s} at names told h opened x c e =
@@ -80,6 +83,8 @@ return_is_new k l way sent now_idle _ returns saying h once = once
 failed_for : (k : Known) (l new : Line) (way : Way) (marks : List Marked) (cause : Cause) → IsNext way l new → new.caller.activity ≡ l.caller.activity → HasCause (known_by k way) l way (sent_by way (sent_since l.caller.activity marks)) cause → FailedFor (known_by k way).started (known_by k way).rejects (known_by k way).bag (record { call = current_call new.caller; cause = cause; marks = marks_by way l.caller.activity marks }) cause
 failed_for k l new (ByStart t) marks Unanswered next same h = absurd (omega (arith, h.eight))
 failed_for k l new (ByStart t) marks (RefusedFor reason) next same h = absurd h
+failed_for k l new (ByBind call) marks Unanswered next same h = absurd (omega (arith, h.eight))
+failed_for k l new (ByBind call) marks (RefusedFor reason) next same h = absurd h
 failed_for k l new (ByPacket n q) marks Unanswered next same h = absurd (omega (arith, h.eight))
 failed_for k l new (ByPacket n q) marks (RefusedFor reason) next same h =
     let r : IsRejection k n q = subst (Answers k n q) h.is_reject h.is_answer.answers in
@@ -134,6 +139,7 @@ Told-acted {k} {cs} {ds} {m} {p} {l} {way} {s} marks returns failures at unretur
 -- what a process does, behind what it came by
 abbrev pub behind_way : Way → Activity → Outcome → Outcome
 behind_way (ByStart t) a o = behind (Starts t) o
+behind_way (ByBind call) a o = behind (Binds call) o
 behind_way (ByPacket n q) a o = behind (Hears a n) o
 behind_way ByTick a o = o
 
@@ -163,13 +169,26 @@ acted_is w m p c new (ByStart t) a (Fails cause) = refl
 acted_is w m p c new (ByStart t) a BindFails = refl
 acted_is w m p c new (ByStart t) a (BoundTo export) = refl
 acted_is w m p c new (ByStart t) a NotBound = refl
+acted_is w m p c new (ByBind call) a SaysNothing = refl
+acted_is w m p c new (ByBind call) a (Sends q) = refl
+acted_is w m p c new (ByBind call) a Waits = refl
+acted_is w m p c new (ByBind call) a (Returned x) = refl
+acted_is w m p c new (ByBind call) a (Fails cause) = refl
+acted_is w m p c new (ByBind call) a BindFails = refl
+acted_is w m p c new (ByBind call) a (BoundTo export) = refl
+acted_is w m p c new (ByBind call) a NotBound = refl
 acted_is w m p c new (ByPacket n x) a (Sends q) = refl
 acted_is w m p c new (ByPacket n x) a _ = refl
 acted_is w m p c new ByTick a (Sends q) = refl
 acted_is w m p c new ByTick a _ = refl
 
-pub does-keeps : (w : World) (m p : ℕ) (b c : Client) (l : Line) (way : Way) (s : LineStep) → Holds w → numbered 2 w.clients m ≡ Some b → numbered 1 b.lines p ≡ Some l → c.lines ≡ b.lines → LawfulAct (known w) l way (sent_since l.caller.activity w.records.marks) s → Holds (settled w (behind_way way l.caller.activity (does w m p c s)))
-does-keeps w m p b c l way s h eb el same lawful =
+-- a line is no part of what a client has read
+dated_line : (way : Way) (m : ℕ) (c : Client) (p : ℕ) (l : Line) → IsDated way m c → IsDated way m (with_line c p l)
+dated_line (ByStart t) m c p l h = h
+dated_line _ m c p l h = tt
+
+pub does-keeps : (w : World) (m p : ℕ) (b c : Client) (l : Line) (way : Way) (s : LineStep) → Holds w → numbered 2 w.clients m ≡ Some b → numbered 1 b.lines p ≡ Some l → c.lines ≡ b.lines → b.read ≤ c.read → c.read ≤ w.second → IsDated way m c → LawfulAct (known w) l way (sent_since l.caller.activity w.records.marks) s → Holds (settled w (behind_way way l.caller.activity (does w m p c s)))
+does-keeps w m p b c l way s h eb el same old now dated lawful =
     let at : IsAct (known w) w.clients (with_numbered 2 w.clients m (with_line c p s.line)) m p l way (sent_since l.caller.activity w.records.marks) s = record {
       rewrites = rewrites w.clients m p b (with_line c p s.line) l s.line eb el (ap (λ lines. with_numbered 1 lines p s.line) same);
       lines = h.lines;
@@ -179,7 +198,8 @@ does-keeps w m p b c l way s h eb el same lawful =
     subst Holds (sym (acted_is w m p c s.line way l.caller.activity s.said))
     (record {
       names = Names-acted at h.names;
-      lives = Lives-acted w.second (life w) w.server.exports.rows at h.names h.told h.lives;
+      reads = Reads-acted (known w) w.second w.clients m b (with_line c p s.line) way s.said eb old now (dated_line way m c p s.line dated) h.reads;
+      lives = Lives-acted w.second (life w) w.server.exports at h.names h.told h.lives;
       lines = Lines-acted at;
       unreturned = Unreturned-acted at h.names h.told h.unreturned;
       marks = Marks-acted w.records.marks at h.marks;

@@ -17,7 +17,7 @@ use Rattle.replay_model.specs.Process.{Line, Said, Sends}
 use Rattle.replay_model.specs.Record.{Start, Failure, Cause, Unanswered, RefusedFor}
 use Rattle.lawful_rules.specs.Known.{Known, Grows, with_start, with_sent, with_adds}
 use Rattle.lawful_rules.specs.Facts.{Life, HasRun, Requests, IsRequest, Answers, IsAnswer, IsSent, Gathers, IsEntry, IsCarrier, HasNotRun, IsWorkerAt, IsCall, IsOpenIn, IsLine, AreAlike, IsMarkedIn, IsMarked}
-use Rattle.lawful_rules.specs.Lawful.{Way, ByStart, ByPacket, ByTick, known_by, known_after}
+use Rattle.lawful_rules.specs.Lawful.{Way, ByStart, ByBind, ByPacket, ByTick, known_by, known_after}
 use Rattle.once_law.proofs.Places.{packet_kept}
 use Rattle.once_law.proofs.Parts.{IsStartedRun}
 
@@ -59,6 +59,7 @@ Grows-with_adds k rows (ARejection q) =
 pub Grows-known_by : (k : Known) (way : Way) → Grows k (known_by k way)
 Grows-known_by k (ByStart s) = Grows-with_start k s
 Grows-known_by k (ByPacket n p) = Grows-itself k
+Grows-known_by k (ByBind call) = Grows-itself k
 Grows-known_by k ByTick = Grows-itself k
 
 pub Grows-known_after : (k : Known) (said : Said) → Grows k (known_after k said)

@@ -11,6 +11,9 @@ pub mod Laws
 pub mod Arriving
 pub mod Services
 pub mod Calls
+pub mod Exporting
 pub mod Packets
+pub mod Binding
 pub mod Booting
+pub mod Lifetimes
 pub mod Whole

@@ -22,6 +22,7 @@ use Rattle.lawful_rules.specs.Lawful.{Grounds, LawfulStep, ByPacket}
 use Rattle.once_law.proofs.Lists.{members_push}
 use Rattle.once_law.proofs.Places.{line_at_read, entry_is_there}
 use Rattle.once_law.proofs.Parts.{life, Holds}
+use Rattle.once_law.proofs.Exporting.{rows_of}
 use Rattle.once_law.proofs.Laws.{RuleLaws, Laws}
 use Rattle.once_law.proofs.Arriving.{ComesAs, sent_can_arrive, frame_comes, damaged_frame_comes}
 use Rattle.once_law.proofs.Works.{works-keeps}
@@ -37,6 +38,7 @@ Holds-server_takes w k p h r =
     either w (ltb (length w.server.ready) READY_CELLS) _ _
     (λ room. record {
       names = h.names;
+      reads = h.reads;
       lives = h.lives;
       lines = h.lines;
       unreturned = h.unreturned;
@@ -52,7 +54,7 @@ Holds-server_takes w k p h r =
 Holds-hears : RuleLaws → (w : World) (k : ℕ) (p : Packet) (c : Client) (l : Line) → Holds w → packet_at w.bag k ≡ Some p → p.to ≢ 1 → numbered 2 w.clients p.to ≡ Some c → numbered 1 c.lines (p.header.hint + 1) ≡ Some l → Holds (settled w (hears w k p c l (is_unused (on_packet l.caller p.header).act)))
 Holds-hears laws w k p c l h there to ec el =
     either w (is_unused (on_packet l.caller p.header).act) _ _ (λ unused. h)
-    (λ used. does-keeps w p.to (p.header.hint + 1) c c l (ByPacket k p) (heard p.to l p) h ec el refl
+    (λ used. does-keeps w p.to (p.header.hint + 1) c c l (ByPacket k p) (heard p.to l p) h ec el refl (omega arith) (h.reads.read_first p.to c ec) tt
     (laws.packet (known w) p.to (p.header.hint + 1) l k p (sent_since l.caller.activity w.records.marks) (reply_grounds w h)
     (h.lines p.to (p.header.hint + 1) l (line_at_read w.clients p.to (p.header.hint + 1) c l ec el)) ((h.sent k p there).to_client to) there used))
 
@@ -116,6 +118,7 @@ Holds-popped : (w : World) (p : Packet) (rest : List Packet) → Holds w → w.s
 Holds-popped w p rest h er =
     record {
       names = h.names;
+      reads = h.reads;
       lives = h.lives;
       lines = h.lines;
       unreturned = h.unreturned;
@@ -132,6 +135,7 @@ Holds-total : (w : World) (total : ℕ) → Holds w → Holds (record w { server
 Holds-total w total h =
     record {
       names = h.names;
+      reads = h.reads;
       lives = h.lives;
       lines = h.lines;
       unreturned = h.unreturned;
@@ -143,7 +147,7 @@ Holds-total w total h =
       told = h.told;
     }
 
-Holds-claims_next : RuleLaws → (w : World) (n : ℕ) (ready : List Packet) → Holds w → numbered 1 w.server.workers n ≡ Some Resting → w.server.ready ≡ ready → Holds (settled w (claims_next w n ready))
+Holds-claims_next : Laws → (w : World) (n : ℕ) (ready : List Packet) → Holds w → numbered 1 w.server.workers n ≡ Some Resting → w.server.ready ≡ ready → Holds (settled w (claims_next w n ready))
 unfolding claims_next
 Holds-claims_next laws w n [] h en er = h
 Holds-claims_next laws w n (p ∷ rest) h en er =
@@ -153,7 +157,7 @@ Holds-claims_next laws w n (p ∷ rest) h en er =
     subst (λ o. Holds (settled popped (works popped n p (on_idle (asked_of w.server.exports.rows p) o p)))) (sym t.1)
     (works-keeps popped n Resting p t.0 (on_idle (asked_of w.server.exports.rows p) (Some t.0) p) (Holds-popped w p rest h er)
     (record { all = h.workers; there = en; only = λ q c. absurd (none-some q c); request = request; entry = t.1 })
-    (laws.idle (known w) (life w) w.server.exports.rows p t.0 request h.lives.rows (grounds w p t.0 h t.1)))
+    (laws.rules.idle (known w) (life w) w.server.exports.rows p t.0 request (rows_of laws.exports h.lives) (grounds w p t.0 h t.1)))
 
 -- a worker with a packet does a step by its entry
 Holds-works : (w : World) (n : ℕ) (v : Worker) (p : Packet) (step : Entry → Step) → Holds w → numbered 1 w.server.workers n ≡ Some v → carrier v ≡ Some p → ((e : Entry) → IsWorkerAt (known w) (life w) v e → IsRequest (known w) p) → ((e : Entry) → IsWorkerAt (known w) (life w) v e → Grounds (known w) (life w) p.header.call.activity e → LawfulStep (known w) (life w) w.server.exports.rows p v e (step e)) → Holds (settled w (works w n p (step (unwrap_or (entry_at w.server.entries p.header.call.activity) Empty))))
@@ -166,24 +170,24 @@ Holds-works w n v p step h en is request lawful =
     (record { all = h.workers; there = en; only = λ q c. same_Some q p (sym c ∙ is); request = request t.0 at; entry = t.1 })
     (lawful t.0 at (grounds w p t.0 h t.1)))
 
-pub Holds-work : RuleLaws → (w : World) (n : ℕ) (o : Option Worker) → Holds w → numbered 1 w.server.workers n ≡ o → Holds (settled w (work_event w n o))
+pub Holds-work : Laws → (w : World) (n : ℕ) (o : Option Worker) → Holds w → numbered 1 w.server.workers n ≡ o → Holds (settled w (work_event w n o))
 unfolding work_event
 Holds-work laws w n None h e = h
 Holds-work laws w n (Some Resting) h e = Holds-claims_next laws w n w.server.ready h e refl
 Holds-work laws w n (Some (Claimed p seen)) h e =
     Holds-works w n (Claimed p seen) p (on_claimed has_buffer p seen) h e refl (λ x at. at.request)
-    (λ x at g. laws.claimed (known w) (life w) w.server.exports.rows has_buffer p seen x at g)
+    (λ x at g. laws.rules.claimed (known w) (life w) w.server.exports.rows has_buffer p seen x at g)
 Holds-work laws w n (Some (Took p)) h e =
     Holds-works w n (Took p) p (on_took p) h e refl (λ x at. at.0.request)
-    (λ x at g. laws.took (known w) (life w) w.server.exports.rows p x at g)
+    (λ x at g. laws.rules.took (known w) (life w) w.server.exports.rows p x at g)
 Holds-work laws w n (Some (Admitted p arguments)) h e =
     let s : Served = served w.server.total p.header.procedure arguments in
     Holds-works (record w { server = record w.server { total = s.total } }) n (Admitted p arguments) p (λ x. on_admitted has_buffer p arguments s.answer)
     (Holds-total w s.total h) e refl (λ x at. at.0.request)
-    (λ x at g. laws.admitted (known w) (life w) w.server.exports.rows has_buffer p arguments s.answer x (served_reply w.server.total p.header.procedure arguments) at g)
+    (λ x at g. laws.rules.admitted (known w) (life w) w.server.exports.rows has_buffer p arguments s.answer x (served_reply w.server.total p.header.procedure arguments) at g)
 Holds-work laws w n (Some (Ran p answer)) h e =
     Holds-works w n (Ran p answer) p (λ x. on_ran p answer) h e refl (λ x at. at.0.request)
-    (λ x at g. laws.ran (known w) (life w) w.server.exports.rows p answer x at g)
+    (λ x at g. laws.rules.ran (known w) (life w) w.server.exports.rows p answer x at g)
 Holds-work laws w n (Some (Fetched p)) h e =
     Holds-works w n (Fetched p) p (on_fetched p) h e refl (λ x at. at.0.request)
-    (λ x at g. laws.fetched (known w) (life w) w.server.exports.rows p x at g)
+    (λ x at g. laws.rules.fetched (known w) (life w) w.server.exports.rows p x at g)

@@ -1,7 +1,8 @@
 -- The invariant, as parts: each is a record over exactly what it reads of the world. `Once` follows from them.
-use Rattle.std.proofs.Common.{◌≡◌, ◌≢◌, ℕ, ◌^◌, ◌<◌, ◌≤◌, List, length, map, Option, Some, None, true, false}
+use Rattle.std.proofs.Common.{◌≡◌, ◌≢◌, ℕ, ◌^◌, ◌<◌, ◌≤◌, ◌+◌, List, length, map, Option, Some, None, true, false}
 use Rattle.std.specs.Prelude.{Contains}
-use Rattle.binder.specs.declared.row.ExportRow.{ExportRow}
+use Rattle.binder.specs.Exports.{Exports}
+use Rattle.binder.specs.Sound.{AreSound}
 use Rattle.rpc_header.specs.declared.Activity.{Activity}
 use Rattle.call_rules.specs.Packet.{Packet}
 use Rattle.call_rules.specs.Entry.{Entry, word_of}
@@ -10,10 +11,9 @@ use Rattle.call_rules.specs.Caller.{is_idle, current_call}
 use Rattle.replay_model.specs.Once.{NoneTwice, call_of_run, call_of_return, sent_since, FailedFor}
 use Rattle.replay_model.specs.Process.{Line}
 use Rattle.replay_model.specs.Record.{Start, Return, Failure, Marked}
-use Rattle.replay_model.specs.World.{World, Client, numbered, packet_at, entry_at, is_entry_activity}
+use Rattle.replay_model.specs.World.{World, Client, numbered, packet_at, entry_at, is_entry_activity, number_limit}
 use Rattle.lawful_rules.specs.Known.{Known, known}
 use Rattle.lawful_rules.specs.Facts.{Life, HasReply, HasRun, IsRequest, IsSent, IsEntry, Remembers, carrier, IsWorkerAt, IsLine, IsMarked}
-use Rattle.lawful_rules.specs.Lawful.{AreRows}
 use Rattle.once_law.proofs.Places.{EachLine}
 
 -- the server's life
@@ -26,14 +26,25 @@ pub record Names (clients : List Client) (started : List Start) : Type 0 where
   -- a call has one start
   pub one_start : (s t : Start) → Contains started s → Contains started t → s.call ≡ t.call → s ≡ t
 
-pub record Lives (second : ℕ) (f : Life) (exports : List (Option ExportRow)) (started : List Start) (journal : List Run) : Type 0 where
+-- what holds of each client
+abbrev pub EachClient : List Client → (ℕ → Client → Type 0) → Type 0
+EachClient clients P = (m : ℕ) (c : Client) → numbered 2 clients m ≡ Some c → P m c
+
+pub record Reads (second : ℕ) (clients : List Client) (started : List Start) : Type 0 where
+  -- a client read no second that is still to come
+  pub read_first : EachClient clients (λ m c. c.read ≤ second)
+  -- it has started only calls whose numbers a later second than those that it has read doesn't give
+  pub below_read : EachClient clients (λ m c. (s : Start) → Contains started s → s.call.activity.machine ≡ m → s.call.number < number_limit c.read)
+
+pub record Lives (second : ℕ) (f : Life) (exports : Exports) (started : List Start) (journal : List Run) : Type 0 where
   -- the server read the second when it booted, and no second that is still to come
   pub boot_first : f.boot ≤ f.read
   pub read_first : f.read ≤ second
   -- the numbers of calls have room in a header
   pub second_fits : second < 2 ^ 32
-  -- the server's exports are of this life
-  pub rows : AreRows f exports
+  -- the server's exports are of this life, and the next identifier is at most one ahead of the seconds read
+  pub sound : AreSound f.boot exports
+  pub next_read : exports.next ≤ f.read + 1
   -- what ran was bound to an export that is there by now
   pub runs_read : (r : Run) → Contains journal r → (s : Start) → Contains started s → s.call ≡ r.call → s.export.identifier ≤ f.read
 
@@ -124,7 +135,8 @@ pub record Told (k : Known) (returns : List Return) (failures : List Failure) : 
 -- the invariant
 pub record Holds (w : World) : Type 0 where
   pub names : Names w.clients w.records.started
-  pub lives : Lives w.second (life w) w.server.exports.rows w.records.started w.records.journal
+  pub reads : Reads w.second w.clients w.records.started
+  pub lives : Lives w.second (life w) w.server.exports w.records.started w.records.journal
   pub lines : Lines (known w) w.clients
   pub unreturned : Unreturned w.clients w.records.returns
   pub marks : Marks w.clients w.records.marks w.bag

@@ -7,11 +7,12 @@ use Rattle.replay_model.specs.Once.{sent_at, sent_since}
 use Rattle.replay_model.specs.Process.{Line, Said, Sends}
 use Rattle.replay_model.specs.Record.{Mark, Begin, SentPacket, Heard, Marked}
 use Rattle.lawful_rules.specs.Known.{Known, next_packet}
-use Rattle.lawful_rules.specs.Lawful.{Way, ByStart, ByPacket, ByTick, sent_by, sent_after, IsNext, IsLawfulSaying}
+use Rattle.lawful_rules.specs.Lawful.{Way, ByStart, ByBind, ByPacket, ByTick, sent_by, sent_after, IsNext, IsLawfulSaying}
 
 -- the marks with that of what a process came by
 abbrev pub marks_by : Way → Activity → List Marked → List Marked
 marks_by (ByStart s) a marks = record { activity = s.call.activity; mark = Begin } ∷ marks
+marks_by (ByBind call) a marks = record { activity = call.activity; mark = Begin } ∷ marks
 marks_by (ByPacket n p) a marks = record { activity = a; mark = Heard n } ∷ marks
 marks_by ByTick a marks = marks
 
@@ -23,6 +24,7 @@ marks_after n _ marks = marks
 -- the process starts a call of its own, and sends a packet of its own
 abbrev StartsOwn : Activity → Way → Type 0
 StartsOwn a (ByStart s) = s.call.activity ≡ a
+StartsOwn a (ByBind call) = call.activity ≡ a
 StartsOwn a _ = Unit {0}
 
 abbrev SendsOwn : Activity → Said → Type 0
@@ -31,6 +33,7 @@ SendsOwn a _ = Unit {0}
 
 starts_own : (way : Way) (old new : Line) → IsNext way old new → StartsOwn old.caller.activity way
 starts_own (ByStart s) old new h = ap (λ c. c.activity) h.1
+starts_own (ByBind call) old new h = ap (λ c. c.activity) h.1
 starts_own _ old new h = tt
 
 sends_own : (k : Known) (l : Line) (way : Way) (sent : List ℕ) (now_idle : Bool) (said : Said) → IsLawfulSaying k l way sent now_idle said → SendsOwn l.caller.activity said
@@ -58,6 +61,7 @@ other_mark a x m marks ne =
 
 own_by : (a : Activity) (way : Way) (marks : List Marked) → StartsOwn a way → sent_since a (marks_by way a marks) ≡ sent_by way (sent_since a marks)
 own_by a (ByStart s) marks h = own_mark a s.call.activity Begin marks h
+own_by a (ByBind call) marks h = own_mark a call.activity Begin marks h
 own_by a (ByPacket n p) marks h = own_mark a a (Heard n) marks refl
 own_by a ByTick marks h = refl
 
@@ -73,6 +77,7 @@ own_sent k old new way sent now_idle said marks k' next saying =
 
 other_by : (a x : Activity) (way : Way) (marks : List Marked) → StartsOwn x way → x ≢ a → sent_since a (marks_by way x marks) ≡ sent_since a marks
 other_by a x (ByStart s) marks h ne = other_mark a s.call.activity Begin marks (λ e. ne (sym h ∙ e))
+other_by a x (ByBind call) marks h ne = other_mark a call.activity Begin marks (λ e. ne (sym h ∙ e))
 other_by a x (ByPacket n p) marks h ne = other_mark a x (Heard n) marks ne
 other_by a x ByTick marks h ne = refl
 

@@ -1,11 +1,12 @@
 -- The invariant holds after any events, and `Once` follows from it.
-use Rattle.std.proofs.Common.{List, [], ◌∷◌, refl}
-use Rattle.std.specs.Prelude.{ℕ, Contains}
+use Rattle.std.proofs.Common.{suc, List, [], ◌∷◌, refl, arith}
+use Rattle.std.specs.Prelude.{ℕ, All, Contains}
 use Rattle.call_rules.specs.Packet.{Packet}
 use Rattle.replay_model.specs.declared.event.Event.{Event}
 use Rattle.replay_model.specs.declared.event.Event.TheVariants as event
 use Rattle.replay_model.specs.Once.{Once, WasStarted, TellsRun, FailedFor}
 use Rattle.replay_model.specs.Record.{Failure}
+use Rattle.replay_model.specs.Script.{InRange}
 use Rattle.replay_model.specs.Step.{step, run}
 use Rattle.replay_model.specs.World.{World, numbered, packet_at, first_world}
 use Rattle.once_law.proofs.Lists.{all_of_members}
@@ -15,33 +16,42 @@ use Rattle.once_law.proofs.Laws.{Laws}
 use Rattle.once_law.proofs.Arriving.{CanArrive, sent_can_arrive}
 use Rattle.once_law.proofs.Calls.{Holds-call, Holds-tick}
 use Rattle.once_law.proofs.Packets.{Holds-deliver, Holds-damage, Holds-show, Holds-work}
+use Rattle.once_law.proofs.Binding.{Holds-bind, Holds-skip}
+use Rattle.once_law.proofs.Lifetimes.{Holds-second, Holds-export, Holds-withdraw, Holds-restart}
 use Rattle.once_law.proofs.Booting.{Holds-first}
 
 -- each event keeps the invariant
-Holds-step : Laws → (w : World) (e : Event) → Holds w → Holds (step w e)
+Holds-step : Laws → (w : World) (e : Event) → InRange e → Holds w → Holds (step w e)
 unfolding step
-Holds-step laws w (event.Call m p asked) h = Holds-call laws.rules w m p asked (numbered 2 w.clients m) h refl
-Holds-step laws w (event.Deliver k) h = Holds-deliver laws w k (packet_at w.bag k) h refl
-Holds-step laws w (event.Damage k bit) h = Holds-damage laws w k bit (packet_at w.bag k) h refl
-Holds-step laws w (event.Tick m p count) h = Holds-tick laws.rules w m p count h
-Holds-step laws w (event.Show k) h = Holds-show w k (packet_at w.bag k) h
-Holds-step laws w (event.Work n) h = Holds-work laws.rules w n (numbered 1 w.server.workers n) h refl
-Holds-step laws w event.Journal h = h
-Holds-step laws w event.End h = h
+Holds-step laws w (event.Second second) r h = Holds-second w second (omega (arith, r.1)) h
+Holds-step laws w (event.Call m p asked) r h = Holds-call laws.rules w m p asked (numbered 2 w.clients m) r.1 h refl
+Holds-step laws w (event.Bind m p name) r h = Holds-bind laws w m p name (numbered 2 w.clients m) r.1 h refl
+Holds-step laws w (event.Deliver k) r h = Holds-deliver laws w k (packet_at w.bag k) h refl
+Holds-step laws w (event.Damage k bit) r h = Holds-damage laws w k bit (packet_at w.bag k) h refl
+Holds-step laws w (event.Tick m p count) r h = Holds-tick laws.rules w m p count h
+Holds-step laws w (event.Export name) r h = Holds-export laws w name h
+Holds-step laws w (event.Withdraw name) r h = Holds-withdraw laws w name h
+Holds-step laws w (event.Restart m) r h = Holds-restart laws w m r.0 r.1 h
+Holds-step laws w (event.Skip m p count) r h = Holds-skip w m p count (numbered 2 w.clients m) h refl
+Holds-step laws w (event.Show k) r h = Holds-show w k (packet_at w.bag k) h
+Holds-step laws w (event.Work n) r h = Holds-work laws w n (numbered 1 w.server.workers n) h refl
+Holds-step laws w event.Journal r h = h
+Holds-step laws w event.End r h = h
 
-Holds-run : Laws → (w : World) (events : List Event) → Holds w → Holds (run w events)
-Holds-run laws w [] h = h
-Holds-run laws w (e ∷ es) h = Holds-run laws (step w e) es (Holds-step laws w e h)
+Holds-run : Laws → (w : World) (events : List Event) → All InRange events → Holds w → Holds (run w events)
+Holds-run laws w [] r h = h
+Holds-run laws w (e ∷ es) r h =
+    Holds-run laws (step w e) es (λ k d l. r (suc k) d (omega (arith, l))) (Holds-step laws w e (r 0 e (omega arith)) h)
 
--- after any events
-pub Holds-after : Laws → (small long : ℕ) (events : List Event) → Holds (run (first_world small long) events)
-Holds-after laws small long events = Holds-run laws (first_world small long) events (Holds-first small long)
+-- after any events that a line of a script can have
+pub Holds-after : Laws → (small long : ℕ) (events : List Event) → All InRange events → Holds (run (first_world small long) events)
+Holds-after laws small long events r = Holds-run laws (first_world small long) events r (Holds-first laws.exports small long)
 
 -- each packet that was sent in the course of any events can arrive
-pub all_can_arrive : Laws → (small long : ℕ) (events : List Event) (p : Packet) → Contains (run (first_world small long) events).bag p → CanArrive p
-all_can_arrive laws small long events p c =
+pub all_can_arrive : Laws → (small long : ℕ) (events : List Event) (p : Packet) → All InRange events → Contains (run (first_world small long) events).bag p → CanArrive p
+all_can_arrive laws small long events p r c =
     let n = packet_number (run (first_world small long) events).bag p c in
-    sent_can_arrive ((Holds-after laws small long events).sent n.0 p n.1)
+    sent_can_arrive ((Holds-after laws small long events r).sent n.0 p n.1)
 
 pub once_holds : (w : World) → Holds w → Once w
 once_holds w h =

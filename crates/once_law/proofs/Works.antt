@@ -5,6 +5,7 @@ use Rattle.std.proofs.lemmas.Option.{same_Some, none-some}
 use Rattle.std.proofs.lemmas.List.Elements.{Contains-push_cases}
 use Rattle.rpc_header.specs.declared.Activity.{Activity}
 use Rattle.binder.specs.declared.row.ExportRow.{ExportRow}
+use Rattle.binder.specs.Exports.{Exports}
 use Rattle.call_rules.specs.Packet.{Packet}
 use Rattle.call_rules.specs.Entry.{Entry, word_of}
 use Rattle.call_rules.specs.declared.worker.Did.{Did}
@@ -18,7 +19,7 @@ use Rattle.lawful_rules.specs.Facts.{Life, IsSent, IsAnswer, IsEntry, Remembers}
 use Rattle.lawful_rules.specs.Lawful.{Advances, IsLawfulRun, AreLawfulAdds, LawfulStep}
 use Rattle.once_law.proofs.Lists.{none_twice_push}
 use Rattle.once_law.proofs.Places.{entries_set, length-with_entry, packet_cases}
-use Rattle.once_law.proofs.Parts.{life, Names, Lives, Sent, RemembersRuns, Entries, IsStartedRun, Told, Holds}
+use Rattle.once_law.proofs.Parts.{life, Names, Reads, Lives, Sent, RemembersRuns, Entries, IsStartedRun, Told, Holds}
 use Rattle.once_law.proofs.Grows.{Grows-with_adds, HasRun-grows, IsStartedRun-grows, IsRequest-grows, IsSent-grows, IsEntry-grows, IsLine-grows, IsMarked-grows, FailedFor-grows}
 use Rattle.once_law.proofs.Owning.{AreRunsBack, IsAt, admitted_at, Workers-after}
 
@@ -83,16 +84,17 @@ Told-after {k} {f} {es} {ws} {i} {v} {p} rows o a returns failures at l h =
       failed = λ x c. FailedFor-grows g x x.cause (h.failed x c);
     }
 
-Lives-after : {k : Known} {f : Life} {es : List Entry} {ws : List Worker} {i : ℕ} {v : Worker} {p : Packet} {e : Entry} (second : ℕ) (rows : List (Option ExportRow)) (o : Option Entry) (a : Adds) (clients : List Client) → IsAt k f es ws i v p e → AreLawfulAdds k rows p v o a → Names clients k.started → Lives second f rows k.started k.journal → Lives second f rows (with_adds k rows a).started (with_adds k rows a).journal
-Lives-after {k} {f} {es} {ws} {i} {v} {p} second rows o a clients at l names h =
+Lives-after : {k : Known} {f : Life} {es : List Entry} {ws : List Worker} {i : ℕ} {v : Worker} {p : Packet} {e : Entry} (second : ℕ) (exports : Exports) (o : Option Entry) (a : Adds) (clients : List Client) → IsAt k f es ws i v p e → AreLawfulAdds k exports.rows p v o a → Names clients k.started → Lives second f exports k.started k.journal → Lives second f exports (with_adds k exports.rows a).started (with_adds k exports.rows a).journal
+Lives-after {k} {f} {es} {ws} {i} {v} {p} second exports o a clients at l names h =
     record {
       boot_first = h.boot_first;
       read_first = h.read_first;
       second_fits = h.second_fits;
-      rows = h.rows;
-      runs_read = λ r c s cs same. elim (runs_back k rows p v o a l r c) [
-        | inl old ↦ h.runs_read r old s (starts_back k rows a s cs) same
-        | inr new ↦ read_by r new.0 s (starts_back k rows a s cs) same
+      sound = h.sound;
+      next_read = h.next_read;
+      runs_read = λ r c s cs same. elim (runs_back k exports.rows p v o a l r c) [
+        | inl old ↦ h.runs_read r old s (starts_back k exports.rows a s cs) same
+        | inr new ↦ read_by r new.0 s (starts_back k exports.rows a s cs) same
       ];
     }
   where
@@ -101,6 +103,10 @@ Lives-after {k} {f} {es} {ws} {i} {v} {p} second rows o a clients at l names h =
         let w = admitted_at at r new in
         let e = names.one_start s (record { call = p.header.call; export = p.header.export; procedure = p.header.procedure; arguments = r.arguments }) cs w.2 (same ∙ new.same_call) in
         subst (λ n. n ≤ f.read) (sym (ap (λ t. t.export.identifier) e)) w.0.up_to_read
+
+Reads-after : (k : Known) (rows : List (Option ExportRow)) (a : Adds) (second : ℕ) (clients : List Client) → Reads second clients k.started → Reads second clients (with_adds k rows a).started
+Reads-after k rows a second clients h =
+    record { read_first = h.read_first; below_read = λ m c e s cs. h.below_read m c e s (starts_back k rows a s cs) }
 
 Names-after : (k : Known) (rows : List (Option ExportRow)) (a : Adds) (clients : List Client) → Names clients k.started → Names clients (with_adds k rows a).started
 Names-after k rows a clients h =
@@ -178,7 +184,8 @@ works-keeps w who v p e s h at l =
     subst Holds (sym (worked_is w who p s.worker s.entry s.did s.adds))
     (record {
       names = Names-after (known w) rows s.adds w.clients h.names;
-      lives = Lives-after w.second rows s.entry s.adds w.clients at l.adds h.names h.lives;
+      reads = Reads-after (known w) rows s.adds w.second w.clients h.reads;
+      lives = Lives-after w.second w.server.exports s.entry s.adds w.clients at l.adds h.names h.lives;
       lines = λ m q x y. IsLine-grows g (h.lines m q x y);
       unreturned = h.unreturned;
       marks = λ m q x y. IsMarked-grows g x.caller _ (h.marks m q x y);

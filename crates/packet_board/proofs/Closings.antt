@@ -10,7 +10,7 @@ use Rattle.packet_board.specs.declared.word.Word.{Word}
 use Rattle.packet_board.specs.declared.layout.Layout.{Layout}
 use Rattle.packet_board.specs.declared.buffer.Buffer.{Buffer}
 use Rattle.packet_board.specs.declared.view.View.{View}
-use Rattle.packet_board.specs.Words.{one_if, weigh, times, in_words, unpacked, buffers_of, cell_count, IsBuffer}
+use Rattle.packet_board.specs.Words.{one_if, weigh, times, in_words, unpacked, buffers_of, cell_count, Fits, IsBuffer}
 use Rattle.packet_board.specs.Hands.{flat, AreThere}
 use Rattle.packet_board.specs.Views.{in_hands}
 use Rattle.packet_board.specs.Laws.{Homes, Sound, Law}
@@ -69,18 +69,18 @@ pub more_buffers : (bs : List Buffer) (xs : List (Option Buffer)) (i : ℕ) (y :
 more_buffers bs xs i y e at = map_push Some bs y ∙ (ap (λ (z : List (Option Buffer)). z ++ Some y ∷ []) e ∙ take_more_at xs i (Some y) at)
 
 module _ {N : Type 0} where
-  pub record Last (holds : Law N) (k : Layout) (v : View N) (ns : List ℕ) (xs : List (Option Buffer)) : Type 0 where
+  pub record Last (holds : Law N) (k : Layout) (id : ℕ) (v : View N) (ns : List ℕ) (xs : List (Option Buffer)) : Type 0 where
     pub words : length ns ≡ cell_count k + 1
     pub slots : length xs ≡ buffers_of k
     pub there : AreThere xs
-    pub ended : (bs : List Buffer) → map Some bs ≡ xs → Ended holds k v (cells_of ns) bs
+    pub ended : (bs : List Buffer) → map Some bs ≡ xs → ((cell : ℕ) (w : Word) → get_elem? (cells_of ns) cell ≡ some w → Fits w) → Ended holds k id v (cells_of ns) bs
 
   none_in_hands : (k : Layout) (ws : List Word) (out : ℕ) (hs : Homes) (vs : List (View N)) (id : ℕ) (v : View N) → Sound k ws out hs vs → get_elem? vs id ≡ some v → v.live ≡ true → out ≡ 0 → ((b : ℕ) → times b v.hands ≡ 0) → (b : ℕ) → in_hands b vs ≡ 0
   none_in_hands k ws out hs vs id v sound at live zero_out empty b = all_zero (λ (w : View N). times b w.hands) vs (λ j w e. dite (ℕ_discrete j id)
       (λ p. let same : v ≡ w = some-injective v w (sym at ∙ (ap (λ (z : ℕ). get_elem? vs z) (sym p) ∙ e)) in ap (λ (z : View N). times b z.hands) (sym same) ∙ empty b)
       (λ ne. sound.idle j w e (only k ws out hs vs id v j w sound at live zero_out ne e) b))
 
-  pub lasts : (holds : Law N) (k : Layout) (id : ℕ) (v : View N) (ns : List ℕ) (xs : List (Option Buffer)) → v.live ≡ true → v.alone ≡ true → ((b : ℕ) → times b v.hands ≡ 0) → Final (Seen (Kept holds k) id v) ns xs → Last holds k v ns xs
+  pub lasts : (holds : Law N) (k : Layout) (id : ℕ) (v : View N) (ns : List ℕ) (xs : List (Option Buffer)) → v.live ≡ true → v.alone ≡ true → ((b : ℕ) → times b v.hands ≡ 0) → Final (Seen (Kept holds k) id v) ns xs → Last holds k id v ns xs
   lasts holds k id v ns xs live alone empty final = let s = final.0 in let kept = final.1.0 in let at = final.1.1 in let sound = kept.stands.sound in let zero_out = (sound.lonely id v at alone).0 in
       let ws : List Word = cells_of s.words in let out : ℕ = out_of s.words in let hs : Homes = s.homes in let vs : List (View N) = s.views in let same : s.words ≡ ns = final.2 in
       let free = none_in_hands k ws out hs vs id v sound at live zero_out empty in let named = λ (b : ℕ). let c = sound.custody b in let f = free b in let x : ℕ = in_words b ws in let y : ℕ = in_hands b vs in let z : ℕ = one_if (nat_lt b (buffers_of k)) in
@@ -94,13 +94,15 @@ module _ {N : Type 0} where
         words = ap length (sym same) ∙ (cells_length s.words kept.some_word ∙ ap (λ (z : ℕ). z + 1) sound.wide);
         slots = long;
         there = λ j x e. let room = inside j x e in let h = home j room in (h.0, some-injective x (Some h.0) (sym e ∙ full j room));
-        ended = λ bs is. subst (λ (z : List ℕ). Ended holds k v (cells_of z) bs) same record {
+        ended = λ bs is fit. subst (λ (z : List ℕ). Ended holds k id v (cells_of z) bs) same record {
+          homes = hs;
           views = vs;
-          id = id;
-          this = at;
+          last = record { sound = subst (λ (z : ℕ). Sound k ws z hs vs) zero_out sound; lawful = kept.stands.lawful; seat = at; live = live };
+          at_home = all ∙ sym is;
           others = λ j w ne e. only k ws out hs vs id v j w sound at live zero_out ne e;
           wide = sound.wide;
           long = sym (length_mapped Some bs) ∙ (ap length is ∙ long);
+          fit = subst (λ (z : List ℕ). (cell : ℕ) (w : Word) → get_elem? (cells_of z) cell ≡ some w → Fits w) (sym same) fit;
           custody = named;
           bounds = λ j y e. let f : get_elem? xs j ≡ some (Some y) = ap (λ (z : List (Option Buffer)). get_elem? z j) (sym is) ∙ mapped_at Some bs j y e in let room = inside j (Some y) f in let h = home j room in
               subst (IsBuffer k j) (one_buffer h.0 y (some-injective (Some h.0) (Some y) (sym (full j room) ∙ f))) h.2;

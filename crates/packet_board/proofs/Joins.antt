@@ -1,5 +1,5 @@
 -- A view that is cut in two, and two views that become one.
-use Rattle.std.proofs.Common.{◌≡◌, ◌≢◌, ℕ, ◌+◌, true, true≢false, List, [], ◌∷◌, ◌++◌, set, sym, ap, ◌∙◌, subst, arith, ⊎_elim}
+use Rattle.std.proofs.Common.{◌≡◌, ◌≢◌, ℕ, ◌+◌, ◌<◌, true, true≢false, List, [], ◌∷◌, ◌++◌, length, length-set, set, sym, ap, ◌∙◌, subst, arith, ⊎_elim}
 use mathlib.Core.Option.{some}
 use lib.ListN.{get_elem?}
 use Rattle.atomic_table.specs.Table.{Splits, Joins}
@@ -11,8 +11,12 @@ use Rattle.packet_board.specs.Words.{one_if, times, in_words}
 use Rattle.packet_board.specs.Views.{begun, settled, newcomer, joined, spent, in_hands}
 use Rattle.packet_board.specs.Laws.{Homes, Sound, Law, Parts, Merges}
 use Rattle.packet_board.specs.Rule.{Kept, cells_of, out_of}
-use Rattle.packet_board.proofs.Counts.{weigh_set, weigh_more}
-use Rattle.packet_board.proofs.Turns.{seen_of}
+use Rattle.packet_board.proofs.Counts.{below, weigh_set, weigh_more}
+use Rattle.packet_board.proofs.Turns.{not_first, seen_of}
+
+first_of : {A : Type 0} (xs : List A) (a b : A) → 0 < length xs → get_elem? (xs ++ a ∷ []) 0 ≡ some b → get_elem? xs 0 ≡ some b
+first_of [] a b some_item e = absurd (omega arith)
+first_of (x ∷ xs) a b some_item e = e
 
 module _ {N : Type 0} where
   parted : (k : Layout) (ws : List Word) (out : ℕ) (hs : Homes) (vs : List (View N)) (id : ℕ) (v : View N) (blank : N) → Sound k ws out hs vs → get_elem? vs id ≡ some (begun v) → v.live ≡ true
@@ -32,6 +36,7 @@ module _ {N : Type 0} where
         (λ p. absurd (true≢false (ap (λ (z : View N). z.live) p ∙ a))) (at_snoc vs' r y j e);
     lonely = λ j y e a. ⊎_elim (λ p. ⊎_elim (λ q. absurd (true≢false (sym (ap (λ (z : View N). z.alone) q.1 ∙ a)))) (λ q. sound.lonely j y q.1 a) (at_set vs id j l y p))
         (λ p. absurd (true≢false (sym (ap (λ (z : View N). z.alone) p ∙ a)))) (at_snoc vs' r y j e);
+    untouched = λ y e a z. let b = below vs id u at in let s = length-set vs id l in absurd (not_first vs id u l y (λ y' e' a' z'. (sound.untouched y' e' a' z').one_seat) at (omega arith) (first_of vs' r y (omega (arith, b, s)) e) a z);
   }
 
   pub parts_seat : (holds : Law N) (splits : View N → Type 0) (blank : N) → Parts holds splits blank → (k : Layout) (id : ℕ) (v u : View N) → u ≡ begun v → v.live ≡ true → v.pending ≡ 0 → splits v → Splits (Kept holds k) id u (settled u) (newcomer blank u)
@@ -62,6 +67,7 @@ module _ {N : Type 0} where
         idle = λ j y e a. ⊎_elim (λ p b. ap (λ (z : View N). times b z.hands) (sym p.1)) (λ p. ⊎_elim (λ q. absurd (true≢false (sym live ∙ (ap (λ (z : View N). z.live) q.1 ∙ a)))) (λ q. sound.idle j y q.1 a) (at_set vs id j u y p.1)) (at_set vs' other j x y e);
         lonely = λ j y e a. ⊎_elim (λ p. absurd (true≢false (sym (ap (λ (z : View N). z.alone) p.1 ∙ a)))) (λ p. ⊎_elim (λ q. absurd (true≢false (sym (ap (λ (z : View N). z.alone) q.1 ∙ a)))) (λ q. sound.lonely j y q.1 a) (at_set vs id j u y p.1))
             (at_set vs' other j x y e);
+        untouched = λ y e a z. ⊎_elim (λ p. absurd (true≢false (sym (ap (λ (z : View N). z.live) p.1 ∙ a)))) (λ p. absurd (not_first vs id v u y (λ y' e' a' z'. (sound.untouched y' e' a' z').one_seat) at (omega arith) p.1 a z)) (at_set vs' other 0 x y e);
       }
 
   pub merges_seat : (holds : Law N) (splits : View N → Type 0) (both : N → N → N) (blank : N) → Merges holds splits both blank → (k : Layout) (id : ℕ) (v : View N) (other : ℕ) (w : View N) → v.live ≡ true → v.pending ≡ 0 → splits v

@@ -138,6 +138,7 @@ module _ {N : Type 0} where
             of_layout = λ j u e l. subst (λ (z : View N). z.layout ≡ k) (one_view v u j e) refl;
             idle = λ j u e l. absurd (true≢false (ap (λ (z : View N). z.live) (one_view v u j e) ∙ l));
             lonely = λ j u e l. absurd (true≢false (sym (ap (λ (z : View N). z.alone) (one_view v u j e) ∙ l)));
+            untouched = λ u e l z. record { one_seat = refl; first = refl; new = subst (AreNew k (buffers_of k)) (sym (flat_some xs)) new };
           };
           lawful = subst (λ (z : List Word × List (Option Buffer)). holds k z.0 z.1 (v ∷ [])) (λ i. (sym (first_read k (cell_count k) few) i, sym (flat_some xs) i)) (opens k xs may new);
         };

@@ -16,14 +16,14 @@ use Rattle.packet_board.specs.Words.{one_if, names, times, in_words, unpacked, b
 use Rattle.packet_board.specs.Hands.{gives_of, takes_of, lose, gain, placed, flat, Slots, lookup, drop_out, take_in, keys, CanGive, given_by, Found}
 use Rattle.packet_board.specs.Views.{looked, exchanged, in_hands}
 use Rattle.packet_board.specs.Laws.{Homes, Sound, Law, Allowing, Looks, Exchanges, Learns, Picks}
-use Rattle.packet_board.specs.Rule.{Kept, Ready, Mine, cells_of, out_of, Swapped, swapped}
+use Rattle.packet_board.specs.Rule.{Kept, Ready, Mine, cells_of, out_of, Swapped, swapped, at_word}
 use Rattle.packet_board.specs.Seats.{Exchanged}
 use Rattle.packet_board.proofs.Counts.{weigh_set, weigh_at, one_at_most, names_self, names_at_most, names_is, from_one, times_lose, times_gain}
 use Rattle.packet_board.proofs.Slots.{counted_key, gone_held}
 use Rattle.packet_board.proofs.Brings.{outs, one_buffer, still_ready}
 use Rattle.packet_board.proofs.Cells.{cell_there, cells_set, out_kept}
 use Rattle.packet_board.proofs.Packs.{unpacked_apart}
-use Rattle.packet_board.proofs.Turns.{seen_of, looks_again}
+use Rattle.packet_board.proofs.Turns.{not_first, seen_of, was_at, looks_again}
 use Rattle.packet_board.proofs.Flows.{flows, apart, none_not_some, same_number, takes_from, length_placed, placed_here, placed_else, map_placed, keys_after, held_after, giving, taking}
 
 taken_room : (k : Layout) (t : Option ℕ) (found : Option Buffer) → Found k t found → (n : ℕ) → 1 ≤ names n t → n < buffers_of k
@@ -74,6 +74,7 @@ module _ {N : Type 0} where
         of_layout = λ j u e l. ⊎_elim (λ p. subst (λ (z : View N). z.layout ≡ k) p.1 (sound.of_layout id v at live)) (λ p. sound.of_layout j u p.1 l) (at_set vs id j w u e);
         idle = λ j u e l. ⊎_elim (λ p. absurd (true≢false (sym live ∙ (ap (λ (z : View N). z.live) p.1 ∙ l)))) (λ p. sound.idle j u p.1 l) (at_set vs id j w u e);
         lonely = λ j u e l. ⊎_elim (λ p. let a = sound.lonely id v at (ap (λ (z : View N). z.alone) p.1 ∙ l) in (a.0, ap (λ (z : View N). z.pending) (sym p.1) ∙ a.1, ap (λ (z : View N). z.live) (sym p.1) ∙ a.2)) (λ p. sound.lonely j u p.1 l) (at_set vs id j w u e);
+        untouched = λ u e l z. absurd (not_first vs id v w u (λ y e' l' z'. (sound.untouched y e' l' z').one_seat) at (omega arith) e l z);
       }
 
   given_buffer : (v : View N) (c : Slots) (k : Layout) (g : Option ℕ) → Ready v c → v.layout ≡ k → CanGive g (lookup c) → (n : ℕ) → g ≡ Some n → (1 ≤ times n v.hands) × ((y : Buffer) × (given_by g (lookup c) ≡ Some y) × (n < buffers_of k) × IsBuffer k n y)
@@ -85,7 +86,7 @@ module _ {N : Type 0} where
   -- what holds of the seat and the table after the number found
   After : (holds : Law N) (k : Layout) (slots id i a b : ℕ) (me : Mine N) (chooses : View N → Option Buffer → N → Type 0) (tells : View N → Word → Type 0) (s : State (Option Buffer) (View N)) → ℕ → Type 0
   After holds k slots id i a b me chooses tells s z = (w : View N) × (act : Act (Option Buffer)) × Valid s.homes me.1 act × Kept holds k (stepped s i z id me.1 w act)
-      × swapped (λ v cell old new found notes. chooses v found notes) tells (step slots i a b none) me (get_or s.words i 0) (w, carried_after me.1 act)
+      × at_word holds (swapped (λ v cell old new found notes. chooses v found notes) tells) (step slots i a b none) me (get_or s.words i 0) (w, carried_after me.1 act)
 
   module _ (holds : Law N) (allows : Allowing N) (exchanges : Exchanges holds allows) (looks : Looks holds) (k : Layout) (slots id i a b : ℕ) (me : Mine N) (chooses : View N → Option Buffer → N → Type 0) (tells : View N → Word → Type 0)
       (pos : 0 < i) (room : i - 1 < cell_count k) (ready : Ready me.0 me.1) (can : CanGive (gives_of (unpacked a).buffer (unpacked b).buffer) (lookup me.1))
@@ -98,7 +99,10 @@ module _ {N : Type 0} where
       keeps,
       tt,
       looks_again holds looks k id i me.0 s kept at ready.live here,
-      ((λ e. absurd (ne e)), λ _. (refl, learns (cells_of s.words) (out_of s.words) s.homes s.views (unpacked r) (seen_of holds k s id me.0 kept at ready.live) here (unpacked_apart r a ne))),
+      (
+        ((λ e. absurd (ne e)), λ _. (refl, learns (cells_of s.words) (out_of s.words) s.homes s.views (unpacked r) (seen_of holds k s id me.0 kept at ready.live) here (unpacked_apart r a ne))),
+        was_at holds k s id me.0 (i - 1) (unpacked r) sound (seen_of holds k s id me.0 kept at ready.live) here,
+      ),
     )
 
     hits : (s : State (Option Buffer) (View N)) → Kept holds k s → get_elem? s.views id ≡ some me.0 → get_or s.words i 0 ≡ a → After holds k slots id i a b me chooses tells s b
@@ -106,7 +110,7 @@ module _ {N : Type 0} where
     hits s kept at hit = let old : Word = unpacked a in let new : Word = unpacked b in let g : Option ℕ = gives_of old.buffer new.buffer in let t : Option ℕ = takes_of old.buffer new.buffer in
         let ws : List Word = cells_of s.words in let out : ℕ = out_of s.words in let hs : Homes = s.homes in let vs : List (View N) = s.views in let v : View N = me.0 in let c : Slots = me.1 in let cell : ℕ = i - 1 in
         let sound = kept.stands.sound in let wide = sound.wide in let lay = sound.of_layout id v at ready.live in
-        let here : get_elem? ws cell ≡ some old = cell_there s.words i pos (subst (λ (z : ℕ). cell < z) (sym wide) room) ∙ ap (λ (z : ℕ). some (unpacked z)) hit in
+        let there = cell_there s.words i pos (subst (λ (z : ℕ). cell < z) (sym wide) room) in let here : get_elem? ws cell ≡ some old = there ∙ ap (λ (z : ℕ). some (unpacked z)) hit in
         let taken = λ (o : ℕ) (e : t ≡ Some o). in_one_word k ws out hs vs cell old o sound here (takes_from old.buffer new.buffer o e) in
         let f = finding k ws out hs vs sound t taken in let found : Option Buffer = f.0 in let given : Option Buffer = given_by g (lookup c) in
         let giver = given_buffer v c k g ready lay can in let ga = giving g hs c (outs k ws out hs vs id v c sound at ready) can in
@@ -130,19 +134,22 @@ module _ {N : Type 0} where
             };
           },
           (
-            (λ _. record {
-              found = found;
-              notes = p.0;
-              sort = subst (λ (l : Layout). Found l t found) (sym lay) f.1;
-              fresh = λ o e. let m = weigh_at (λ (z : View N). times o z.hands) vs id v at in let z = (taken o e).1 in let y : ℕ = in_hands o vs in let m' : times o v.hands ≤ y = m in let z' : y ≡ 0 = z in omega (arith, m', z');
-              picked = p.2;
-              after = λ j. (w, (ta.carried ∙ ap (λ (z : Slots). take_in t found z) ga.carried) j);
-            }),
-            λ ne. absurd (ne hit),
+            (
+              (λ _. record {
+                found = found;
+                notes = p.0;
+                sort = subst (λ (l : Layout). Found l t found) (sym lay) f.1;
+                fresh = λ o e. let m = weigh_at (λ (z : View N). times o z.hands) vs id v at in let z = (taken o e).1 in let y : ℕ = in_hands o vs in let m' : times o v.hands ≤ y = m in let z' : y ≡ 0 = z in omega (arith, m', z');
+                picked = p.2;
+                after = λ j. (w, (ta.carried ∙ ap (λ (z : Slots). take_in t found z) ga.carried) j);
+              }),
+              λ ne. absurd (ne hit),
+            ),
+            was_at holds k s id v cell (unpacked (get_or s.words i 0)) sound (seen_of holds k s id v kept at ready.live) there,
           ),
         )
 
-    pub swaps : Allows (Kept holds k) slots id me i (λ n. either (eqb n a) b n) (swapped (λ v cell old new found notes. chooses v found notes) tells (step slots i a b none) me)
+    pub swaps : Allows (Kept holds k) slots id me i (λ n. either (eqb n a) b n) (at_word holds (swapped (λ v cell old new found notes. chooses v found notes) tells) (step slots i a b none) me)
     unfolding After
     swaps s kept _ at _ = two_ways (get_or s.words i 0) a b (After holds k slots id i a b me chooses tells s) (λ e. hits s kept at e) (λ ne. misses s kept at ne)
 

@@ -1,5 +1,5 @@
 -- Steps after which one view is another, and the number of seats out may be: a load, the number of seats out, and the beginning and end of a split and a join.
-use Rattle.std.proofs.Common.{◌≡◌, ◌≢◌, ℕ, ◌+◌, ◌-◌, ◌%◌, ◌<◌, ◌≤◌, Bool, true, false, true≢false, eqb-true, List, length-set, map, set, get_or, Option, refl, sym, ap, ◌∙◌, subst, arith, mod-eq_of_lt, ⊎_elim}
+use Rattle.std.proofs.Common.{◌≡◌, ◌≢◌, ℕ, ◌+◌, ◌-◌, ◌%◌, ◌<◌, ◌≤◌, Bool, true, false, true≢false, eqb-true, List, length, length-set, map, set, get_or, Option, refl, sym, ap, ◌∙◌, subst, arith, mod-eq_of_lt, ⊎_elim}
 use native.Mathlib.Nat.{add-mod_right}
 use Rattle.std.proofs.lemmas.List.{set-get_or}
 use mathlib.Core.Option.{some, none}
@@ -13,9 +13,9 @@ use Rattle.packet_board.specs.declared.view.View.{View}
 use Rattle.packet_board.specs.Words.{one_if, times, in_words, unpacked, cell_count}
 use Rattle.packet_board.specs.Hands.{flat}
 use Rattle.packet_board.specs.Views.{looked, begun, joined, landed, told_out, in_hands}
-use Rattle.packet_board.specs.Laws.{Homes, Sound, Law, Seen, Looks, Counts, Begins, Ends, Bounds, Sees}
-use Rattle.packet_board.specs.Rule.{Kept, Ready, Mine, cells_of, out_of, saw, counted, began, ended}
-use Rattle.packet_board.proofs.Counts.{weigh_set, weigh_at, weigh_two, weigh_beside}
+use Rattle.packet_board.specs.Laws.{Homes, Sound, Law, Seen, WasAt, Looks, Counts, Begins, Ends, Bounds, Sees}
+use Rattle.packet_board.specs.Rule.{Kept, Ready, Mine, cells_of, out_of, at_word, saw, counted, began, ended}
+use Rattle.packet_board.proofs.Counts.{below, weigh_set, weigh_at, weigh_two, weigh_beside}
 use Rattle.packet_board.proofs.Cells.{cell_there, cells_kept, out_set, out_is}
 use Rattle.packet_board.proofs.Brings.{same_state}
 
@@ -27,6 +27,12 @@ less_still : (n : ℕ) → n < 18446744073709551616 → n - 1 < 1844674407370955
 less_still n h = omega arith
 
 module _ {N : Type 0} where
+  -- a view that made a step is not that of an untouched board's seat
+  pub not_first : (vs : List (View N)) (id : ℕ) (v w u : View N) → ((y : View N) → get_elem? vs 0 ≡ some y → y.live ≡ true → y.steps ≡ 0 → length vs ≡ 1) → get_elem? vs id ≡ some v → 0 < w.steps
+      → get_elem? (set vs id w) 0 ≡ some u → u.live ≡ true → u.steps ≡ 0 → ⊥
+  not_first vs id v w u one at stepped e live none_made = ⊎_elim (λ p. let s : w.steps ≡ 0 = ap (λ (z : View N). z.steps) p.1 ∙ none_made in absurd (omega (arith, stepped, s)))
+      (λ p. let l = one u p.1 live none_made in let b = below vs id v at in let z : 0 ≡ id = omega (arith, l, b) in p.0 z) (at_set vs id 0 w u e)
+
   pub record Turn (v w : View N) (out out' : ℕ) : Type 0 where
     pub hands : (b : ℕ) → times b w.hands ≡ times b v.hands
     pub live : w.live ≡ v.live
@@ -34,6 +40,7 @@ module _ {N : Type 0} where
     pub balanced : out' + w.ended + v.begun ≡ out + v.ended + w.begun
     pub counted : out' + v.pending ≡ out + w.pending
     pub lonely : w.alone ≡ true → (out' ≡ 0) × (w.pending ≡ 0)
+    pub stepped : 0 < w.steps
 
   pub turned : (k : Layout) (ws : List Word) (out out' : ℕ) (hs : Homes) (vs : List (View N)) (id : ℕ) (v w : View N) → Sound k ws out hs vs → get_elem? vs id ≡ some v → v.live ≡ true → Turn v w out out'
       → ((j : ℕ) (u : View N) → j ≢ id → get_elem? vs j ≡ some u → u.alone ≡ true → out' ≡ 0) → Sound k ws out' hs (set vs id w)
@@ -51,6 +58,7 @@ module _ {N : Type 0} where
     idle = λ j u e l. ⊎_elim (λ p. absurd (true≢false (sym live ∙ (sym t.live ∙ (ap (λ (z : View N). z.live) p.1 ∙ l))))) (λ p. sound.idle j u p.1 l) (at_set vs id j w u e);
     lonely = λ j u e l. ⊎_elim (λ p. let a = t.lonely (ap (λ (z : View N). z.alone) p.1 ∙ l) in (a.0, ap (λ (z : View N). z.pending) (sym p.1) ∙ a.1, ap (λ (z : View N). z.live) (sym p.1) ∙ (t.live ∙ live)))
         (λ p. let a = sound.lonely j u p.1 l in (others j u p.0 p.1 l, a.1, a.2)) (at_set vs id j w u e);
+    untouched = λ u e l z. absurd (not_first vs id v w u (λ y e' l' z'. (sound.untouched y e' l' z').one_seat) at t.stepped e l z);
   }
 
   -- where no seat is out, no other view is live
@@ -60,6 +68,10 @@ module _ {N : Type 0} where
 
   pub seen_of : (holds : Law N) (k : Layout) (s : State (Option Buffer) (View N)) (id : ℕ) (v : View N) → Kept holds k s → get_elem? s.views id ≡ some v → v.live ≡ true → Seen holds k (cells_of s.words) (out_of s.words) s.homes s.views id v
   seen_of holds k s id v kept at live = record { sound = kept.stands.sound; lawful = kept.stands.lawful; seat = at; live = live }
+
+  pub was_at : (holds : Law N) (k : Layout) (s : State (Option Buffer) (View N)) (id : ℕ) (v : View N) (cell : ℕ) (word : Word) → Sound k (cells_of s.words) (out_of s.words) s.homes s.views
+      → Seen holds k (cells_of s.words) (out_of s.words) s.homes s.views id v → get_elem? (cells_of s.words) cell ≡ some word → WasAt holds cell word v
+  was_at holds k s id v cell word sound seen here = (cells_of s.words, out_of s.words, s.homes, s.views, id, subst (λ (l : Layout). Seen holds l (cells_of s.words) (out_of s.words) s.homes s.views id v) (sym (sound.of_layout id v seen.seat seen.live)) seen, here)
 
   -- a load that leaves words and slots, and another view
   reviewed : (holds : Law N) (k : Layout) (s : State (Option Buffer) (View N)) (i id : ℕ) (w : View N) → Kept holds k s → Sound k (cells_of s.words) (out_of s.words) s.homes (set s.views id w) → holds k (cells_of s.words) (map flat s.homes) (set s.views id w)
@@ -72,18 +84,18 @@ module _ {N : Type 0} where
       → Kept holds k record { words = set s.words i (get_or s.words i 0); homes = s.homes; views = set s.views id (looked v (i - 1) (unpacked (get_or s.words i 0))) }
   looks_again holds looks k id i v s kept at live here = let sound = kept.stands.sound in let word : Word = unpacked (get_or s.words i 0) in let w : View N = looked v (i - 1) word in
       reviewed holds k s i id w kept (turned k (cells_of s.words) (out_of s.words) (out_of s.words) s.homes s.views id v w sound at live
-      record { hands = λ b. refl; live = refl; layout = refl; balanced = refl; counted = refl; lonely = λ a. let l = sound.lonely id v at a in (l.0, l.1) } (λ j u ne e a. (sound.lonely j u e a).0))
+      record { hands = λ b. refl; live = refl; layout = refl; balanced = refl; counted = refl; lonely = λ a. let l = sound.lonely id v at a in (l.0, l.1); stepped = omega arith } (λ j u ne e a. (sound.lonely j u e a).0))
       (looks k (cells_of s.words) (out_of s.words) s.homes s.views id v (i - 1) word (seen_of holds k s id v kept at live) here)
 
   pub loads : (holds : Law N) → Looks holds → (k : Layout) (slots id i : ℕ) (me : Mine N) (tells : View N → Word → Type 0) → 0 < i → i - 1 < cell_count k → Ready me.0 me.1 → Sees holds k id me.0 (i - 1) tells
-      → Allows (Kept holds k) slots id me i (λ r. r) (saw tells (step slots i 0 0 none) me)
+      → Allows (Kept holds k) slots id me i (λ r. r) (at_word holds (saw tells) (step slots i 0 0 none) me)
   loads holds looks k slots id i me tells pos room ready sees s kept _ at _ = let sound = kept.stands.sound in let seen = seen_of holds k s id me.0 kept at ready.live in
       let word : Word = unpacked (get_or s.words i 0) in let wide = sound.wide in let here = cell_there s.words i pos (subst (λ (z : ℕ). i - 1 < z) (sym wide) room) in let w : View N = looked me.0 (i - 1) word in (
         w,
         keeps,
         tt,
         looks_again holds looks k id i me.0 s kept at ready.live here,
-        (refl, sees (cells_of s.words) (out_of s.words) s.homes s.views word seen here),
+        ((refl, sees (cells_of s.words) (out_of s.words) s.homes s.views word seen here), was_at holds k s id me.0 (i - 1) word sound seen here),
       )
 
   pub counts_seats : (holds : Law N) → Counts holds → (k : Layout) (slots id : ℕ) (me : Mine N) → Ready me.0 me.1 → Allows (Kept holds k) slots id me 0 (λ r. r) (counted holds (step slots 0 0 0 none) me)
@@ -95,7 +107,7 @@ module _ {N : Type 0} where
         keeps,
         tt,
         reviewed holds k s 0 id w kept (turned k (cells_of s.words) out out s.homes s.views id me.0 w sound at ready.live
-            record { hands = λ b. refl; live = refl; layout = refl; balanced = refl; counted = refl; lonely = λ a. (eqb-true out 0 a, ready.settled) } (λ j u ne e a. (sound.lonely j u e a).0))
+            record { hands = λ b. refl; live = refl; layout = refl; balanced = refl; counted = refl; lonely = λ a. (eqb-true out 0 a, ready.settled); stepped = omega arith } (λ j u ne e a. (sound.lonely j u e a).0))
             (counts k (cells_of s.words) out s.homes s.views id me.0 seen (λ z j u ne e. only k (cells_of s.words) out s.homes s.views id me.0 j u sound at ready.live z ne e)),
         (refl, (cells_of s.words, s.homes, s.views, id, subst (λ (l : Layout). Seen holds l (cells_of s.words) out s.homes s.views id me.0) (sym lay) seen)),
       )
@@ -122,7 +134,7 @@ module _ {N : Type 0} where
         tt,
         subst (λ (z : ℕ). Kept holds k record { words = set s.words 0 z; homes = s.homes; views = set s.views id w }) (sym x)
             (rewritten holds k s (out + 1) id w kept (turned k (cells_of s.words) out (out + 1) s.homes s.views id me.0 w sound at ready.live
-            record { hands = λ b. refl; live = refl; layout = refl; balanced = omega arith; counted = let p = ready.settled in omega (arith, p); lonely = λ a. absurd (true≢false (sym a)) }
+            record { hands = λ b. refl; live = refl; layout = refl; balanced = omega arith; counted = let p = ready.settled in omega (arith, p); lonely = λ a. absurd (true≢false (sym a)); stepped = omega arith }
             (λ j u ne e a. let l = sound.lonely j u e a in absurd (true≢false (sym l.2 ∙ only k (cells_of s.words) out s.homes s.views id me.0 j u sound at ready.live l.0 ne e))))
             (begins k (cells_of s.words) out s.homes s.views id me.0 seen may ready.settled)),
         refl,
@@ -142,7 +154,7 @@ module _ {N : Type 0} where
         tt,
         subst (λ (y : ℕ). Kept holds k record { words = set s.words 0 y; homes = s.homes; views = set s.views id z }) (sym x)
             (rewritten holds k s (out - 1) id z kept (turned k (cells_of s.words) out (out - 1) s.homes s.views id u z sound at' live
-            record { hands = λ b. refl; live = refl; layout = refl; balanced = omega (arith, some_out); counted = omega (arith, some_out); lonely = λ a. absurd (true≢false (sym a)) }
+            record { hands = λ b. refl; live = refl; layout = refl; balanced = omega (arith, some_out); counted = omega (arith, some_out); lonely = λ a. absurd (true≢false (sym a)); stepped = omega arith }
             (λ j y ne e a. let q = (sound.lonely j y e a).0 in omega (arith, q)))
             (ends k (cells_of s.words) out s.homes s.views id v w seen may idle)),
         (λ i. (landed (sym is i), me.1)),

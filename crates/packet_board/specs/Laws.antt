@@ -22,6 +22,12 @@ abbrev pub Allowing : Type 0 → Type 1
 Allowing N = View N → ℕ → Word → Word → Option Buffer → Option Buffer → N → Type 0
 
 module _ {N : Type 0} where
+  -- A board on which no step was made: one seat, in each cell its first word, and in each slot a new buffer
+  pub record IsUntouched (k : Layout) (ws : List Word) (hs : Homes) (vs : List (View N)) : Type 0 where
+    pub one_seat : length vs ≡ 1
+    pub first : ws ≡ first_cells k
+    pub new : AreNew k (buffers_of k) (map flat hs)
+
   -- Between any two steps of any seats: words, the number of seats out, slots, and all views. A view that a join has spent stays in the list, and is no longer live
   pub record Sound (k : Layout) (ws : List Word) (out : ℕ) (hs : Homes) (vs : List (View N)) : Type 0 where
     pub wide : length ws ≡ cell_count k
@@ -40,6 +46,8 @@ module _ {N : Type 0} where
     pub idle : (j : ℕ) (v : View N) → get_elem? vs j ≡ some v → v.live ≡ false → (b : ℕ) → times b v.hands ≡ 0
     -- a view that is alone is the only one
     pub lonely : (j : ℕ) (v : View N) → get_elem? vs j ≡ some v → v.alone ≡ true → (out ≡ 0) × (v.pending ≡ 0) × (v.live ≡ true)
+    -- while the first seat has made no step, nobody has
+    pub untouched : (v : View N) → get_elem? vs 0 ≡ some v → v.live ≡ true → v.steps ≡ 0 → IsUntouched k ws hs vs
 
   module _ (holds : Law N) where
     -- a state that the board may be in
@@ -57,6 +65,14 @@ module _ {N : Type 0} where
     -- the board was in a state with that number of seats out, in which a seat had that view
     abbrev pub WasOut : ℕ → View N → Type 0
     WasOut out v = (ws : List Word) × (hs : Homes) × (vs : List (View N)) × (id : ℕ) × Seen v.layout ws out hs vs id v
+
+    -- and with that word in that cell
+    abbrev pub WasAt : ℕ → Word → View N → Type 0
+    WasAt cell word v = (ws : List Word) × (out : ℕ) × (hs : Homes) × (vs : List (View N)) × (id : ℕ) × Seen v.layout ws out hs vs id v × (get_elem? ws cell ≡ some word)
+
+    -- whatever the board is now, no step was made on it
+    abbrev pub IsNewNow : Layout → ℕ → View N → Type 0
+    IsNewNow k id v = (ws : List Word) (out : ℕ) (hs : Homes) (vs : List (View N)) → Seen k ws out hs vs id v → IsUntouched k ws hs vs
 
     -- a new board
     abbrev pub Opens : (Layout → Type 0) → (Layout → N) → Type 0

@@ -9,7 +9,7 @@ use Rattle.packet_board.specs.declared.view.View.{View}
 use Rattle.packet_board.specs.Words.{unpacked, buffers_of, times, IsBuffer}
 use Rattle.packet_board.specs.Hands.{gives_of, takes_of, Found, Slots, lookup, removed, drop_out, take_in, keys}
 use Rattle.packet_board.specs.Views.{looked, exchanged, begun, landed, told_out}
-use Rattle.packet_board.specs.Laws.{Law, Allowing, Sound, WasOut, Homes}
+use Rattle.packet_board.specs.Laws.{Law, Allowing, Sound, WasOut, WasAt, Homes}
 use Rattle.packet_board.specs.Laws as laws
 
 abbrev pub out_of : List ℕ → ℕ
@@ -55,6 +55,10 @@ module _ {N : Type 0} where
 
   abbrev pub swapped : (View N → ℕ → Word → Word → Option Buffer → N → Type 0) → (View N → Word → Type 0) → Taking → Mine N → ℕ → Mine N → Type 0
   swapped chosen tells st m r m' = (r ≡ st.first → Swapped chosen (st.word - 1) (unpacked st.first) (unpacked st.second) m m') × (r ≢ st.first → saw tells st m r m')
+
+  -- such a step, and the cell held the word that was found
+  abbrev pub at_word : Law N → (Taking → Mine N → ℕ → Mine N → Type 0) → Taking → Mine N → ℕ → Mine N → Type 0
+  at_word holds told st m r m' = told st m r m' × WasAt holds (st.word - 1) (unpacked r) m.0
 
   -- a load of the word whose number is that of a slot in the hands, which brings the slot to the front
   abbrev pub brought : Taking → Mine N → ℕ → Mine N → Type 0

@@ -9,10 +9,10 @@ use Rattle.packet_board.specs.declared.view.View.{View}
 use Rattle.packet_board.specs.declared.seat.Seat.{Seat}
 use Rattle.packet_board.specs.declared.board.Board.{Board}
 use Rattle.packet_board.specs.declared.law.BoardLaw.{Ghosts}
-use Rattle.packet_board.specs.Words.{one_if, buffers_of, cell_count, in_words, IsBuffer}
-use Rattle.packet_board.specs.Hands.{gives_of, takes_of, Held, lookup, Found, given_away, taken_in}
+use Rattle.packet_board.specs.Words.{one_if, buffers_of, cell_count, in_words, Fits, IsBuffer}
+use Rattle.packet_board.specs.Hands.{gives_of, takes_of, flat, Held, lookup, Found, given_away, taken_in}
 use Rattle.packet_board.specs.Views.{exchanged}
-use Rattle.packet_board.specs.Laws.{Law}
+use Rattle.packet_board.specs.Laws.{Law, Homes, Seen}
 
 module _ {L N : Type 0} where
   abbrev pub layout_of : Board L N → Layout
@@ -46,14 +46,16 @@ module _ {N : Type 0} where
     pub view_after : w ≡ exchanged v cell old new notes
     pub held_after : i ≡ taken_in (takes_of old.buffer new.buffer) found (given_away (gives_of old.buffer new.buffer) h)
 
-  -- What a closed board leaves: the last state, in which the seat that closed it is the only one
-  pub record Ended (holds : Law N) (k : Layout) (v : View N) (words : List Word) (buffers : List Buffer) : Type 0 where
+  -- What a closed board leaves: its last state, in which the seat that closed it is the only one
+  pub record Ended (holds : Law N) (k : Layout) (id : ℕ) (v : View N) (words : List Word) (buffers : List Buffer) : Type 0 where
+    pub homes : Homes
     pub views : List (View N)
-    pub id : ℕ
-    pub this : get_elem? views id ≡ some v
+    pub last : Seen holds k words 0 homes views id v
+    pub at_home : map flat homes ≡ map Some buffers
     pub others : (j : ℕ) (w : View N) → j ≢ id → get_elem? views j ≡ some w → w.live ≡ false
     pub wide : length words ≡ cell_count k
     pub long : length buffers ≡ buffers_of k
+    pub fit : (cell : ℕ) (w : Word) → get_elem? words cell ≡ some w → Fits w
     pub custody : (b : ℕ) → in_words b words ≡ one_if (nat_lt b (buffers_of k))
     pub bounds : (n : ℕ) (y : Buffer) → get_elem? buffers n ≡ some y → IsBuffer k n y
     pub lawful : holds k words (map Some buffers) views

@@ -3,7 +3,8 @@ ghost use Rattle.std.specs.Prelude.{◌≡◌, ◌≢◌, ◌+◌, ◌<◌, ℕ,
 ghost use Rattle.std.specs.Slots.{slots_items, slots_filled, slots_len, IsFull};
 ghost use mathlib.Core.Option.{some};
 ghost use lib.ListN.{get_elem?};
-ghost use Rattle.packet_board.specs.Words.{cell_count};
+ghost use Rattle.packet_board.specs.declared.word.Word.{Word as AnyWord};
+ghost use Rattle.packet_board.specs.Words.{cell_count, Fits};
 ghost use Rattle.packet_board.specs.Hands.{HoldsNothing, AreThere};
 ghost use Rattle.packet_board.specs.Views.{told_out};
 ghost use Rattle.packet_board.specs.Laws.{WasOut};
@@ -24,7 +25,8 @@ type Left = atomic_table::Closed<Option<Buffer>, Global>;
 fn cells_left(left: &Left, mut words: Vec<Word>, cells: usize) -> Vec<Word>
     requires room { (words.items ≡ []) × (vec_capacity words ≡ cells) }
     requires left { IsFull left.now.words × (length (slots_items left.now.words) ≡ cells + 1) }
-    ensures { result.items ≡ cells_of (slots_items left.now.words) }
+    ensures words { result.items ≡ cells_of (slots_items left.now.words) }
+    ensures fit { (cell : ℕ) (w : AnyWord) → get_elem? result.items cell ≡ some w → Fits w }
 {
     for cell in 0..cells {
         words.push_reserved(Word::unpack(left.word(cell + 1)));
@@ -52,7 +54,7 @@ impl<L: BoardLaw> Board<L> {
         requires seat { IsSeatOf self seat }
         requires empty { HoldsNothing (held seat) }
         requires alone { (view seat).alone ≡ true }
-        ensures { Ended L.holds (layout_of self) (view seat) result.words result.buffers }
+        ensures { Ended L.holds (layout_of self) (number seat) (view seat) result.words result.buffers }
     {
         let Board {
             table,
@@ -76,7 +78,7 @@ impl<L: BoardLaw> Board<L> {
         requires seat { IsSeatOf self seat }
         requires empty { HoldsNothing (held seat) }
         ensures out { MatchResult result (λ _. WasOut L.holds 0 (view seat)) (λ still. (still.out ≢ 0) × WasOut L.holds still.out (view seat)) }
-        ensures closed { MatchResult result (λ closed. Ended L.holds (layout_of self) (told_out 0 (view seat)) closed.words closed.buffers) (λ still. (still.board ≡ self) × IsSameSeat seat still.seat × (view still.seat ≡ told_out still.out (view seat)) × (held still.seat ≡ held seat)) }
+        ensures closed { MatchResult result (λ closed. Ended L.holds (layout_of self) (number seat) (told_out 0 (view seat)) closed.words closed.buffers) (λ still. (still.board ≡ self) × IsSameSeat seat still.seat × (view still.seat ≡ told_out still.out (view seat)) × (held still.seat ≡ held seat)) }
     {
         match self.alone(&mut seat) {
             Ok(()) => Ok(self.emptied(seat)),

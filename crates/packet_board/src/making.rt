@@ -3,7 +3,8 @@ ghost use Rattle.std.specs.Prelude.{◌≡◌, ◌+◌, ◌<◌, ◌≤◌, ◌^
 ghost use Rattle.packet_board.specs.Words.{buffers_of, cell_count, first_cells, first_word, packed, Fits, AreNew};
 ghost use Rattle.packet_board.specs.Hands.{HoldsNothing};
 ghost use Rattle.packet_board.specs.Views.{opening_view};
-ghost use Rattle.packet_board.specs.Seats.{view, held, layout_of, IsSeatOf};
+ghost use Rattle.packet_board.specs.Laws.{IsNewNow};
+ghost use Rattle.packet_board.specs.Seats.{view, held, number, layout_of, IsSeatOf};
 
 use crate::board::Board;
 use crate::buffer::Buffer;
@@ -61,7 +62,8 @@ impl<L: BoardLaw> Board<L> {
         requires fits { L.fits layout }
         requires buffers { buffers_of layout ≤ 4095 }
         requires cells { cell_count layout < 2 ^ 32 }
-        ensures { IfOk result (λ made. (layout_of made.0 ≡ layout) × IsSeatOf made.0 made.1 × (view made.1 ≡ opening_view layout (L.first layout)) × HoldsNothing (held made.1)) }
+        ensures made { IfOk result (λ made. (layout_of made.0 ≡ layout) × IsSeatOf made.0 made.1 × (view made.1 ≡ opening_view layout (L.first layout)) × HoldsNothing (held made.1)) }
+        ensures new { IfOk result (λ made. IsNewNow L.holds layout (number made.1) (view made.1)) }
     {
         let words = Vec::with_capacity(alloc, layout.cells())?;
         let buffers = Vec::with_capacity(alloc, layout.buffers())?;

@@ -1,6 +1,6 @@
 //! The board as the rule of a table, and what each step of the table tells. These types are for the proofs alone.
 ghost use Rattle.packet_board.specs.Views.{settled, newcomer, joined, spent, opening_view};
-ghost use Rattle.packet_board.specs.Rule.{Kept, saw, swapped, brought, began, ended, counted};
+ghost use Rattle.packet_board.specs.Rule.{Kept, at_word, saw, swapped, brought, began, ended, counted};
 
 use crate::buffer::Buffer;
 use crate::law::{BoardLaw, Choice};
@@ -21,12 +21,12 @@ impl<L: BoardLaw> TableRule<Option<Buffer>, View<L::Notes>, Layout> for Rule<L> 
 }
 
 /// A load of a cell.
-pub(crate) struct Look<M> {
-    choice: PhantomData<M>,
+pub(crate) struct Look<L, M> {
+    law: PhantomData<(L, M)>,
 }
 
-impl<N, M: Choice<N>> Play<Option<Buffer>, View<N>> for Look<M> {
-    ghost then = { saw M.tells };
+impl<L: BoardLaw, M: Choice<L::Notes>> Play<Option<Buffer>, View<L::Notes>> for Look<L, M> {
+    ghost then = { at_word L.holds (saw M.tells) };
 }
 
 /// An exchange of a cell's word.
@@ -35,7 +35,7 @@ pub(crate) struct Swap<L, M> {
 }
 
 impl<L: BoardLaw, M: Choice<L::Notes>> Play<Option<Buffer>, View<L::Notes>> for Swap<L, M> {
-    ghost then = { λ st m r n. swapped (λ v cell old new found notes. M.chooses v found notes) M.tells st m r n };
+    ghost then = { at_word L.holds (swapped (λ v cell old new found notes. M.chooses v found notes) M.tells) };
 }
 
 /// A load that brings a slot in the hands to the front.

@@ -1,10 +1,10 @@
 //! The steps of a seat on a cell, and on a buffer in its hands.
-ghost use Rattle.std.specs.Prelude.{◌≡◌, ◌≢◌, ◌<◌, ◌≤◌, ℕ, IfOk, IfErr, Option, Some, None, ◌∷◌};
+ghost use Rattle.std.specs.Prelude.{◌≡◌, ◌≢◌, ◌<◌, ◌≤◌, ℕ, IfOk, IfErr, MatchResult, Option, Some, None, ◌∷◌};
 ghost use mathlib.Core.Option.{none, some};
 ghost use Rattle.packet_board.specs.Words.{Fits, buffers_of, cell_count, IsBuffer};
 ghost use Rattle.packet_board.specs.Hands.{gives_of, CanGive, IsStowed, IsUnstowed, given_by, updated, lookup, removed};
 ghost use Rattle.packet_board.specs.Views.{looked};
-ghost use Rattle.packet_board.specs.Laws.{Sees, Learns, Picks};
+ghost use Rattle.packet_board.specs.Laws.{WasAt, Sees, Learns, Picks};
 ghost use Rattle.packet_board.specs.Seats.{view, held, number, layout_of, IsSeatOf, IsSameSeat, Exchanged};
 
 use crate::board::Board;
@@ -23,10 +23,14 @@ impl<L: BoardLaw> Board<L> {
         ensures seat { IsSameSeat seat.old seat.new }
         ensures word { Fits result }
         ensures tells { M.tells (view seat.old) result }
+        ensures was { WasAt L.holds cell result (view seat.old) }
         ensures view { view seat.new ≡ looked (view seat.old) cell result }
         ensures held { held seat.new ≡ held seat.old }
     {
-        let found = self.table.shared.load::<Look<M>>(&mut seat.token, cell + 1);
+        let found = self
+            .table
+            .shared
+            .load::<Look<L, M>>(&mut seat.token, cell + 1);
         Word::unpack(found)
     }
 
@@ -46,6 +50,7 @@ impl<L: BoardLaw> Board<L> {
         requires law { Picks L.holds L.allows M.chooses (layout_of self.now) (number seat.old) (view seat.old) cell old new (given_by (gives_of old.buffer new.buffer) (held seat.old)) }
         requires tells { Learns L.holds (layout_of self.now) (number seat.old) (view seat.old) cell old M.tells }
         ensures seat { IsSameSeat seat.old seat.new }
+        ensures was { MatchResult result (λ _. WasAt L.holds cell old (view seat.old)) (λ word. WasAt L.holds cell word (view seat.old)) }
         ensures done { IfOk result (λ _. Exchanged M.chooses (layout_of self.now) (view seat.old) (view seat.new) (held seat.old) (held seat.new) cell old new) }
         ensures met { IfErr result (λ word. (word ≢ old) × Fits word × M.tells (view seat.old) word × (view seat.new ≡ looked (view seat.old) cell word) × (held seat.new ≡ held seat.old)) }
     {

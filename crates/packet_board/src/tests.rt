@@ -167,13 +167,13 @@ fn of_two_seats_one_fills_a_cell(rt: HostRuntime) -> Result<(), Fail> {
     let Ok(()) = take(&board, &mut two, 1, 0, 1) else {
         panic!(rt; "the long buffer is there")
     };
-    let Ok(()) = put(&board, &mut one, 3, 7, 0) else {
+    let Ok(()) = put(&board, &mut two, 3, 9, 1) else {
         panic!(rt; "the cell is empty")
     };
-    let Err(met) = put(&board, &mut two, 3, 9, 1) else {
+    let Err(met) = put(&board, &mut one, 3, 7, 0) else {
         panic!(rt; "the cell is full")
     };
-    assert_eq!(rt; met, word(7, 0));
+    assert_eq!(rt; met, word(9, 1));
     Ok(())
 }
 

@@ -1,10 +1,7 @@
 -- Bytes that are written into a packet, and read from it.
-use Rattle.std.proofs.Common.{◌≡◌, ℕ, ◌+◌, ◌-◌, ◌≤◌, List, ◌∷◌, ◌++◌, length, take, drop, append_assoc, Result, Ok, Err, Option, Some, None, refl, sym, ap, ◌∙◌, subst, arith}
+use Rattle.std.proofs.Common.{◌≡◌, ℕ, ◌+◌, ◌≤◌, List, ◌++◌, length, take, drop, append_assoc, Result, Ok, Option, Some, None, sym, ap, ◌∙◌, arith}
 use Rattle.std.proofs.lemmas.List.{length-append, length-take-le, length-drop, drop-take, drop-drop}
 use Rattle.std.proofs.Math.Seq.{take-append_seam, drop-append_seam, take-append-add, drop-append-add}
-use Rattle.rpc_header.specs.declared.Header.{Header}
-use Rattle.rpc_header.specs.Reading.{Accepted, Refused, read_of}
-use Rattle.rpc_header.specs.Spelling.{spelling}
 use Rattle.udp_frames.specs.declared.fault.FrameFault.{FrameFault}
 use Rattle.udp_frames.specs.Frame.{frame}
 use Rattle.udp_frames.specs.Reading.{Datagram, reads, reads_unless, first_fault, checks, source_machine}

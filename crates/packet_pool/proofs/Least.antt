@@ -1,12 +1,12 @@
 -- The search for the packet of the least order, one cell further.
-use Rattle.std.proofs.Common.{◌≡◌, ◌≢◌, ℕ, true, inl, inr, ◌+◌, ◌<◌, ◌≤◌, ◌^◌, ⊎_elim, Option, Some, None, IfSome, refl, sym, ap, ◌∙◌, subst, arith}
+use Rattle.std.proofs.Common.{◌≡◌, ℕ, true, inl, inr, ◌+◌, ◌<◌, ◌≤◌, ◌^◌, ⊎_elim, Option, Some, None, IfSome, refl, sym, ap, ◌∙◌, subst, arith}
 use Rattle.std.specs.Prelude.{◌⊎◌}
 use mathlib.Core.Logic.{dite}
 use native.Mathlib.Decide.{ℕ_discrete}
 use Rattle.packet_board.specs.declared.word.Word.{Word}
 use Rattle.packet_board.specs.declared.layout.Layout.{Layout}
 use Rattle.packet_board.specs.declared.view.View.{View}
-use Rattle.packet_board.specs.Words.{buffers_of, empty, Fits}
+use Rattle.packet_board.specs.Words.{buffers_of, empty}
 use Rattle.packet_board.specs.Views.{looked}
 use Rattle.packet_board.specs.Laws.{Law}
 use Rattle.packet_pool.specs.declared.claiming.Waiting.{Waiting}

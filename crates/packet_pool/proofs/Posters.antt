@@ -1,10 +1,10 @@
 -- What the calls of a pool leave of a poster under the plain law.
-use Rattle.std.proofs.Common.{◌≡◌, ℕ, ◌+◌, ◌<◌, ◌≤◌, nat_lt, List, [], ◌∷◌, refl, sym, ap, ◌∙◌, subst, arith, inr}
+use Rattle.std.proofs.Common.{◌≡◌, ℕ, ◌+◌, nat_lt, List, [], ◌∷◌, refl, sym, ap, ◌∙◌, subst, arith}
 use Rattle.packet_board.specs.declared.word.Word.{Word}
 use Rattle.packet_board.specs.declared.layout.Layout.{Layout}
 use Rattle.packet_board.specs.declared.buffer.Buffer.{Buffer}
 use Rattle.packet_board.specs.Words.{empty, full}
-use Rattle.packet_board.specs.Views.{looked, exchanged}
+use Rattle.packet_board.specs.Views.{exchanged}
 use Rattle.packet_pool.specs.declared.item.Item.{Item}
 use Rattle.packet_pool.specs.declared.plain.PlainNotes.{PlainNotes}
 use Rattle.packet_pool.specs.Cells.{AllBefore}

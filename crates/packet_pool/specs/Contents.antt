@@ -1,5 +1,5 @@
 -- What a packet's bytes are: a frame with a header and data, and a long text.
-use Rattle.std.specs.Prelude.{◌≡◌, ℕ, ◌+◌, ◌≤◌, Bool, List, ◌++◌, length, take, drop, Result, Ok, Err}
+use Rattle.std.specs.Prelude.{ℕ, ◌+◌, List, ◌++◌, length, take, drop, Result, Ok, Err}
 use Rattle.rpc_header.specs.declared.Header.{Header}
 use Rattle.rpc_header.specs.Reading.{Read, Accepted, Refused, read_of}
 use Rattle.rpc_header.specs.Spelling.{spelling}

@@ -7,7 +7,7 @@ use Rattle.packet_board.specs.declared.layout.Layout.{Layout}
 use Rattle.packet_board.specs.declared.buffer.Buffer.{Buffer}
 use Rattle.packet_board.specs.declared.view.Met.{Met}
 use Rattle.packet_board.specs.declared.view.View.{View}
-use Rattle.packet_board.specs.Words.{buffers_of, cell_count, first_word, empty, full}
+use Rattle.packet_board.specs.Words.{buffers_of, empty, full}
 use Rattle.packet_board.specs.Laws.{Law, Allowing}
 use Rattle.packet_pool.specs.declared.item.Item.{Item}
 use Rattle.packet_pool.specs.Cells.{IsReadyCell, ready_word, item, IsFreeWord, IsReadyWord, IsNext, newest}
@@ -90,8 +90,3 @@ module _ {N : Type 0} where
   abbrev pub Fresh : Law N → Type 0
   Fresh holds = (k : Layout) (ws : List Word) (bs : List (Option Buffer)) (vs : List (View N)) (id : ℕ) (v : View N) (cell : ℕ) (m : Met)
       → holds k ws bs vs → get_elem? vs id ≡ some v → v.live ≡ true → IsOnly id vs → newest cell v.met ≡ some m → get_elem? ws cell ≡ some m.word
-
-  -- a seat that has the right to post and made no step is the only one, and every word is that of a new board
-  abbrev pub Untouched : Law N → (N → Bool) → Type 0
-  Untouched holds right = (k : Layout) (ws : List Word) (bs : List (Option Buffer)) (vs : List (View N)) (id : ℕ) (v : View N)
-      → holds k ws bs vs → get_elem? vs id ≡ some v → right v.notes ≡ true → v.steps ≡ 0 → IsOnly id vs × ((cell : ℕ) → cell < cell_count k → get_elem? ws cell ≡ some (first_word k cell))

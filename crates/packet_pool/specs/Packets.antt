@@ -1,5 +1,5 @@
 -- What contracts say of a pool, of packets, and of what a seat saw in a call.
-use Rattle.std.specs.Prelude.{◌≡◌, ℕ, ◌<◌, ◌≤◌, List, None}
+use Rattle.std.specs.Prelude.{◌≡◌, ℕ, ◌+◌, ◌<◌, ◌≤◌, List, None}
 use mathlib.Core.Option.{some}
 use lib.ListN.{get_elem?}
 use Rattle.packet_board.specs.declared.word.Word.{Word}
@@ -72,11 +72,12 @@ module _ {N : Type 0} where
   abbrev pub AllEmpty : ℕ → View N → ℕ → ℕ → Type 0
   AllEmpty from v first end = (cell : ℕ) → first ≤ cell → cell < end → IsSeen from v cell (λ word. word ≡ empty)
 
-  -- The seat tried the free cells from the first one on, and took the buffer of number n out of its free cell by its last step
+  -- The seat tried the free cells from the first one on, each once, and took the buffer of number n out of its free cell by its last step
   pub record Takes (with_taken : ℕ → N → N) (first n : ℕ) (v w : View N) : Type 0 where
     pub last : View N
     pub looked : OnlyLooked v last
     pub missed : AllEmpty v.steps last first n
+    pub once : last.steps + first ≡ v.steps + n
     pub after : w ≡ exchanged last n (full n) empty (after_take with_taken v.layout n v.notes)
 
   -- whatever the board is now, the cell has such a word

@@ -2,7 +2,7 @@
 use Rattle.std.specs.Prelude.{ℕ, Bool, List, refl}
 use Rattle.packet_pool.specs.declared.item.Item.{Item}
 use Rattle.packet_pool.specs.declared.plain.PlainNotes.{PlainNotes}
-use Rattle.packet_pool.specs.Laws.{Notes, Seats, Untouched, Takes, Gives, Posts, Claims, Cells, Fresh}
+use Rattle.packet_pool.specs.Laws.{Notes, Seats, Takes, Gives, Posts, Claims, Cells, Fresh}
 use Rattle.packet_pool.specs.Plain.{first_notes, blank_notes, plain_both, plain_with_taken, plain_with_posted, plain_with_claimed, every_packet, always_loose, PlainHolds, plain_allows, taking, giving, posting, claiming}
 
 abbrev pub right_of : PlainNotes → Bool
@@ -66,6 +66,3 @@ plain_seats = record {
   both_posted = λ a b. refl;
   both_claimed = λ a b. refl;
 }
-
-pub plain_untouched : Untouched PlainHolds right_of
-plain_untouched k ws bs vs id v law at right none_made = law.untouched id v at right none_made

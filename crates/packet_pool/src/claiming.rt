@@ -71,10 +71,7 @@ impl<L: PoolLaw> Pool<L> {
     {
         match self.least_ready(seat) {
             None => Err(NoPacket::Empty),
-            Some(chosen) => match self.claim_word(seat, chosen) {
-                Ok(buffer) => Ok(Packet::of(chosen.number, buffer)),
-                Err(word) => Err(NoPacket::Lost(word)),
-            },
+            Some(chosen) => self.claim_seen(seat, chosen),
         }
     }
 
@@ -85,6 +82,7 @@ impl<L: PoolLaw> Pool<L> {
         ensures looked { OnlyLooked (view seat.old) (view seat.new) }
         ensures held { held seat.new ≡ held seat.old }
         ensures seen { (cell : ℕ) → IsReadyCell (layout_in self.now) cell → IsSeen (view seat.old).steps (view seat.new) cell (IsAfter result cell) }
+        ensures once { (view seat.new).steps ≡ (view seat.old).steps + ready_count (layout_in self.now) }
         ensures found { IfSome result (IsWaiting (layout_in self.now) (view seat.old).steps (view seat.new) (buffers_of (layout_in self.now) + ready_count (layout_in self.now))) }
     {
         let [count, _, _, _, _] = self.layout.rows;
@@ -97,17 +95,34 @@ impl<L: PoolLaw> Pool<L> {
         least
     }
 
+    // Claims a packet that was seen, if it is still there.
+    fn claim_seen(&self, seat: &mut Seat<L>, chosen: Waiting) -> Result<Packet, NoPacket>
+        requires seat { IsSeatOf (board_of self.now) seat.old }
+        requires cell { IsReadyCell (layout_in self.now) chosen.cell }
+        requires packet { (chosen.number < (layout_in self.now).small) × (chosen.order < 2 ^ 52) }
+        ensures seat { IsSameSeat seat.old seat.new }
+        ensures claimed { IfOk result (λ packet. (number_of packet ≡ chosen.number) × L.may_post (content packet) × (view seat.new ≡ exchanged (view seat.old) chosen.cell (ready_word chosen.order chosen.number) empty (L.with_claimed (item chosen.order chosen.cell (content packet)) (view seat.old).notes)) × (held seat.new ≡ updated chosen.number (some None) (held seat.old))) }
+        ensures lost { IfErr result (λ why. (met : AnyWord) × (why ≡ AnyReason.Lost met) × (met ≢ ready_word chosen.order chosen.number) × (view seat.new ≡ looked (view seat.old) chosen.cell met) × (held seat.new ≡ held seat.old)) }
+        ensures others { IfErr result (λ why. ¬ (HasNow L.holds (layout_in self.now) (number seat.old) (view seat.old) chosen.cell (λ word. word ≡ ready_word chosen.order chosen.number))) }
+    {
+        match self.claim_word(seat, chosen) {
+            Ok(buffer) => Ok(Packet::of(chosen.number, buffer)),
+            Err(word) => Err(NoPacket::Lost(word)),
+        }
+    }
+
     // Takes a packet out of a ready cell, if it is still there.
     fn claim_word(&self, seat: &mut Seat<L>, chosen: Waiting) -> Result<Buffer, Word>
         requires seat { IsSeatOf (board_of self.now) seat.old }
         requires cell { IsReadyCell (layout_in self.now) chosen.cell }
         requires packet { (chosen.number < (layout_in self.now).small) × (chosen.order < 2 ^ 52) }
-        requires now { (view seat.old).alone ≡ true → HasNow L.holds (layout_in self.now) (number seat.old) (view seat.old) chosen.cell (λ word. word ≡ ready_word chosen.order chosen.number) }
         ensures seat { IsSameSeat seat.old seat.new }
         ensures buffer { IfOk result (λ y. IsBuffer (layout_in self.now) chosen.number y × L.may_post y) }
         ensures claimed { IfOk result (λ y. (view seat.new ≡ exchanged (view seat.old) chosen.cell (ready_word chosen.order chosen.number) empty (L.with_claimed (item chosen.order chosen.cell y) (view seat.old).notes)) × (held seat.new ≡ updated chosen.number (some None) (held seat.old))) }
         ensures lost { IfErr result (λ met. (met ≢ ready_word chosen.order chosen.number) × (view seat.new ≡ looked (view seat.old) chosen.cell met) × (held seat.new ≡ held seat.old)) }
-        ensures others { IfErr result (λ met. ¬ ((view seat.old).alone ≡ true)) }
+
+        // A packet that must be there now isn't lost.
+        ensures others { IfErr result (λ met. ¬ (HasNow L.holds (layout_in self.now) (number seat.old) (view seat.old) chosen.cell (λ word. word ≡ ready_word chosen.order chosen.number))) }
     {
         let ready = Word {
             tag: chosen.order,
@@ -126,3 +141,6 @@ impl<L: PoolLaw> Pool<L> {
         }
     }
 }
+
+#[cfg(test)]
+mod tests;

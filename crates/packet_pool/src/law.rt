@@ -2,7 +2,7 @@
 ghost use Rattle.std.specs.Prelude.{ℕ, Bool, List};
 ghost use Rattle.packet_board.specs.declared.buffer.Buffer.{Buffer};
 ghost use Rattle.packet_pool.specs.declared.item.Item.{Item};
-ghost use Rattle.packet_pool.specs.Laws.{Notes, Seats, Takes, Gives, Posts, Claims, Cells, Fresh, Untouched};
+ghost use Rattle.packet_pool.specs.Laws.{Notes, Seats, Takes, Gives, Posts, Claims, Cells, Fresh};
 
 use packet_board::BoardLaw;
 
@@ -48,6 +48,4 @@ pub trait PoolLaw: BoardLaw {
     ghost cells: { Cells Self.holds may_post };
 
     ghost fresh: { Fresh Self.holds };
-
-    ghost untouched: { Untouched Self.holds right };
 }

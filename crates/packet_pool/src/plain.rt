@@ -3,7 +3,7 @@ ghost use Rattle.std.specs.Prelude.{⊤, false, []};
 ghost use Rattle.packet_pool.specs.Plain.{PlainHolds, plain_allows, may_split, first_notes, blank_notes, plain_both, plain_with_taken, plain_with_posted, plain_with_claimed, every_packet, always_loose};
 ghost use Rattle.packet_pool.specs.PlainSteps.{plain_opens, plain_looks, plain_counts, plain_begins, plain_parts, plain_merges, plain_ends, plain_bounds};
 ghost use Rattle.packet_pool.specs.PlainExchanges.{plain_exchanges};
-ghost use Rattle.packet_pool.specs.PlainPool.{plain_notes, plain_seats, plain_takes, plain_gives, plain_posts, plain_claims, plain_cells, plain_fresh, plain_untouched};
+ghost use Rattle.packet_pool.specs.PlainPool.{plain_notes, plain_seats, plain_takes, plain_gives, plain_posts, plain_claims, plain_cells, plain_fresh};
 
 use crate::item::Item;
 use crate::law::PoolLaw;
@@ -95,6 +95,4 @@ impl PoolLaw for PlainLaw {
     ghost cells = { plain_cells };
 
     ghost fresh = { plain_fresh };
-
-    ghost untouched = { plain_untouched };
 }

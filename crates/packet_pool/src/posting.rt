@@ -28,7 +28,7 @@ impl<L: PoolLaw> Pool<L> {
         ensures seat { IsSameSeat seat.old seat.new }
         ensures posted { IfOk result (λ _. Posts L.with_posted (layout_in self.now) (number_of packet) (content packet) order (view seat.old) (view seat.new) × (held seat.new ≡ updated (number_of packet) none (held seat.old))) }
         ensures back { IfErr result (λ back. (number_of back ≡ number_of packet) × (content back ≡ content packet) × (held seat.new ≡ held seat.old)) }
-        ensures full { IfErr result (λ _. OnlyLooked (view seat.old) (view seat.new) × AllFull (layout_in self.now) (view seat.old).steps (view seat.new) (buffers_of (layout_in self.now) + ready_count (layout_in self.now))) }
+        ensures full { IfErr result (λ _. OnlyLooked (view seat.old) (view seat.new) × AllFull (layout_in self.now) (view seat.old).steps (view seat.new) (buffers_of (layout_in self.now) + ready_count (layout_in self.now)) × ((view seat.new).steps ≡ (view seat.old).steps + ready_count (layout_in self.now))) }
 
         // Where no other seat is out, each ready cell is full now if the packet comes back.
         ensures full_now { (view seat.old).alone ≡ true → IfErr result (λ _. AreFull L.holds (layout_in self.now) (seat_number seat.new) (view seat.new)) }
@@ -54,7 +54,7 @@ impl<L: PoolLaw> Pool<L> {
         ensures seat { IsSameSeat seat.old seat.new }
         ensures posted { IfOk result (λ _. Posts L.with_posted (layout_in self.now) number buffer order (view seat.old) (view seat.new) × (held seat.new ≡ updated number none (held seat.old))) }
         ensures back { IfErr result (λ back. (back ≡ buffer) × (held seat.new ≡ held seat.old)) }
-        ensures full { IfErr result (λ _. OnlyLooked (view seat.old) (view seat.new) × AllFull (layout_in self.now) (view seat.old).steps (view seat.new) (buffers_of (layout_in self.now) + ready_count (layout_in self.now))) }
+        ensures full { IfErr result (λ _. OnlyLooked (view seat.old) (view seat.new) × AllFull (layout_in self.now) (view seat.old).steps (view seat.new) (buffers_of (layout_in self.now) + ready_count (layout_in self.now)) × ((view seat.new).steps ≡ (view seat.old).steps + ready_count (layout_in self.now))) }
         ensures full_now { (view seat.old).alone ≡ true → IfErr result (λ _. AreFull L.holds (layout_in self.now) (seat_number seat.new) (view seat.new)) }
     {
         self.board.stow(seat, number, buffer);
@@ -72,7 +72,7 @@ impl<L: PoolLaw> Pool<L> {
         ensures seat { IsSameSeat seat.old seat.new }
         ensures posted { result ≡ true → (y : AnyBuffer) → held seat.old number ≡ some (Some y) → Posts L.with_posted (layout_in self.now) number y order (view seat.old) (view seat.new) }
         ensures gone { result ≡ true → held seat.new ≡ updated number none (held seat.old) }
-        ensures full { result ≡ false → OnlyLooked (view seat.old) (view seat.new) × (held seat.new ≡ held seat.old) × AllFull (layout_in self.now) (view seat.old).steps (view seat.new) (buffers_of (layout_in self.now) + ready_count (layout_in self.now)) }
+        ensures full { result ≡ false → OnlyLooked (view seat.old) (view seat.new) × (held seat.new ≡ held seat.old) × AllFull (layout_in self.now) (view seat.old).steps (view seat.new) (buffers_of (layout_in self.now) + ready_count (layout_in self.now)) × ((view seat.new).steps ≡ (view seat.old).steps + ready_count (layout_in self.now)) }
     {
         let [count, _, _, _, _] = self.layout.rows;
         let first = self.layout.buffers();

@@ -1,5 +1,5 @@
 //! Buffers taken out of their free cells, and given back.
-ghost use Rattle.std.specs.Prelude.{◌≡◌, ℕ, ◌<◌, ◌≤◌, true, Some, None, ⊤, IfOk, IfErr, IfSome, IfNone, MatchOption, MatchResult};
+ghost use Rattle.std.specs.Prelude.{◌≡◌, ℕ, ◌+◌, ◌<◌, ◌≤◌, true, Some, None, ⊤, IfOk, IfErr, IfSome, IfNone, MatchOption, MatchResult};
 ghost use mathlib.Core.Option.{none, some};
 ghost use Rattle.packet_board.specs.Words.{buffers_of, empty, full, IsBuffer};
 ghost use Rattle.packet_board.specs.Hands.{updated, IsUnstowed};
@@ -24,7 +24,7 @@ impl<L: PoolLaw> Pool<L> {
         ensures seat { IsSameSeat seat.old seat.new }
         ensures packet { IfOk result (λ packet. IsPacket (layout_in self.now) (held seat.new) packet × IsEmptied (content packet)) }
         ensures taken { IfOk result (λ packet. Takes L.with_taken 0 (number_of packet) (view seat.old) (view seat.new) × (held seat.new ≡ updated (number_of packet) (some None) (held seat.old))) }
-        ensures empty { IfErr result (λ _. OnlyLooked (view seat.old) (view seat.new) × (held seat.new ≡ held seat.old) × AllEmpty (view seat.old).steps (view seat.new) 0 (layout_in self.now).small) }
+        ensures empty { IfErr result (λ _. OnlyLooked (view seat.old) (view seat.new) × (held seat.new ≡ held seat.old) × AllEmpty (view seat.old).steps (view seat.new) 0 (layout_in self.now).small × ((view seat.new).steps ≡ (view seat.old).steps + (layout_in self.now).small)) }
 
         // Where no other seat is out, no lesser buffer is free now, and at Empty none.
         ensures least { (view seat.old).alone ≡ true → MatchResult result (λ packet. AreEmpty L.holds (layout_in self.now) (number seat.new) (view seat.new) 0 (number_of packet)) (λ _. AreEmpty L.holds (layout_in self.now) (number seat.new) (view seat.new) 0 (layout_in self.now).small) }
@@ -41,7 +41,7 @@ impl<L: PoolLaw> Pool<L> {
         ensures seat { IsSameSeat seat.old seat.new }
         ensures packet { IfOk result (λ packet. IsLongPacket (layout_in self.now) (held seat.new) packet × IsEmptied (long_content packet)) }
         ensures taken { IfOk result (λ packet. Takes L.with_taken (layout_in self.now).small (long_number packet) (view seat.old) (view seat.new) × (held seat.new ≡ updated (long_number packet) (some None) (held seat.old))) }
-        ensures empty { IfErr result (λ _. OnlyLooked (view seat.old) (view seat.new) × (held seat.new ≡ held seat.old) × AllEmpty (view seat.old).steps (view seat.new) (layout_in self.now).small (buffers_of (layout_in self.now))) }
+        ensures empty { IfErr result (λ _. OnlyLooked (view seat.old) (view seat.new) × (held seat.new ≡ held seat.old) × AllEmpty (view seat.old).steps (view seat.new) (layout_in self.now).small (buffers_of (layout_in self.now)) × ((view seat.new).steps ≡ (view seat.old).steps + (layout_in self.now).long)) }
         ensures least { (view seat.old).alone ≡ true → MatchResult result (λ packet. AreEmpty L.holds (layout_in self.now) (number seat.new) (view seat.new) (layout_in self.now).small (long_number packet)) (λ _. AreEmpty L.holds (layout_in self.now) (number seat.new) (view seat.new) (layout_in self.now).small (buffers_of (layout_in self.now))) }
     {
         let first = self.layout.small as u16;
@@ -81,11 +81,11 @@ impl<L: PoolLaw> Pool<L> {
     // The first of these free cells that has its buffer, and the buffer.
     fn take_from(&self, seat: &mut Seat<L>, first: u16, end: u16) -> Option<(u16, Buffer)>
         requires seat { IsSeatOf (board_of self.now) seat.old }
-        requires room { end ≤ buffers_of (layout_in self.now) }
+        requires room { (first ≤ end) × (end ≤ buffers_of (layout_in self.now)) }
         ensures seat { IsSameSeat seat.old seat.new }
         ensures buffer { IfSome result (λ got. (first ≤ got.0) × (got.0 < end) × IsBuffer (layout_in self.now) got.0 got.1 × IsEmptied got.1) }
         ensures taken { IfSome result (λ got. Takes L.with_taken first got.0 (view seat.old) (view seat.new) × (held seat.new ≡ updated got.0 (some None) (held seat.old))) }
-        ensures empty { IfNone result (OnlyLooked (view seat.old) (view seat.new) × (held seat.new ≡ held seat.old) × AllEmpty (view seat.old).steps (view seat.new) first end) }
+        ensures empty { IfNone result (OnlyLooked (view seat.old) (view seat.new) × (held seat.new ≡ held seat.old) × AllEmpty (view seat.old).steps (view seat.new) first end × ((view seat.new).steps + first ≡ (view seat.old).steps + end)) }
     {
         for number in first..end {
             match self.try_take(seat, number) {

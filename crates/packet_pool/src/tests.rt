@@ -1,11 +1,12 @@
 //! Pools under the plain law.
-ghost use Rattle.std.specs.Prelude.{◌≡◌, [], ◌∷◌};
-ghost use Rattle.packet_pool.specs.Packets.{number_of};
+ghost use Rattle.std.specs.Prelude.{◌≡◌, [], ◌∷◌, IsTrue};
+ghost use Rattle.packet_board.specs.Seats.{held, IsSeatOf, IsSameSeat};
+ghost use Rattle.packet_pool.specs.Packets.{board_of, layout_in, number_of, HoldsPacket};
 
-use crate::moves::{claim, claim_rounds, claims, give, post_rounds, posts, take, takes};
+use crate::moves::{claim, claim_rounds, claims, give, post, post_rounds, posts, take, takes};
 use crate::{Packet, PlainLaw, Pool, Unread};
 use ff_io::Station;
-use packet_board::Layout;
+use packet_board::{Layout, Seat};
 use rpc_header::{Activity, CallId, CallNumber, Export, Header, HeaderFault, Kind, fits};
 use std::test::Fail;
 use std::thread::join_mut;
@@ -39,6 +40,22 @@ fn a_pool_closes_when_all_seats_are_joined(rt: HostRuntime) -> Result<(), Fail> 
     Ok(())
 }
 
+/// Whether no further packet is there to take.
+fn none_left(pool: &Pool<PlainLaw>, seat: &mut Seat<PlainLaw>, packet: &Packet) -> bool
+    requires seat { IsSeatOf (board_of pool.now) seat.old }
+    requires packet { HoldsPacket (layout_in pool.now) (held seat.old) packet.now }
+    ensures seat { IsSameSeat seat.old seat.new }
+    ensures packet { IsTrue result → HoldsPacket (layout_in pool.now) (held seat.new) packet.now }
+{
+    match pool.take(seat) {
+        Err(_) => true,
+        Ok(further) => {
+            pool.give(seat, further);
+            false
+        }
+    }
+}
+
 #[test]
 fn one_small_buffer_is_taken_once_and_again_after_it_was_given(
     rt: HostRuntime,
@@ -48,6 +65,7 @@ fn one_small_buffer_is_taken_once_and_again_after_it_was_given(
         panic!(rt; "the buffer is free")
     };
     assert!(rt; packet.has(0));
+    assert!(rt; none_left(&pool, &mut seat, &packet));
     give(&pool, &mut seat, packet);
     let Some(packet) = take(&pool, &mut seat) else {
         panic!(rt; "the buffer is free again")
@@ -66,7 +84,11 @@ fn of_two_seats_one_takes_the_buffer(rt: HostRuntime) -> Result<(), Fail> {
     };
     assert!(rt; !takes(&pool, &mut two));
     give(&pool, &mut one, packet);
-    assert!(rt; takes(&pool, &mut two));
+    let Some(packet) = take(&pool, &mut two) else {
+        panic!(rt; "the buffer is free again")
+    };
+    assert!(rt; !takes(&pool, &mut one));
+    give(&pool, &mut two, packet);
     Ok(())
 }
 
@@ -96,16 +118,22 @@ fn the_least_order_is_claimed_first(rt: HostRuntime) -> Result<(), Fail> {
 }
 
 #[test]
-fn a_packet_comes_back_where_each_ready_cell_is_full(rt: HostRuntime) -> Result<(), Fail> {
-    let (pool, mut seat) = Pool::<PlainLaw>::make(rt.alloc(), layout(2, 1))?;
-    let Some(first) = take(&pool, &mut seat) else {
+fn a_packet_comes_back_until_another_seat_has_claimed(rt: HostRuntime) -> Result<(), Fail> {
+    let (pool, mut one) = Pool::<PlainLaw>::make(rt.alloc(), layout(2, 1))?;
+    let mut two = pool.board().split(&mut one);
+    let Some(first) = take(&pool, &mut one) else {
         panic!(rt; "two are free")
     };
-    assert!(rt; posts(&pool, &mut seat, first, 1));
-    let Some(second) = take(&pool, &mut seat) else {
+    assert!(rt; posts(&pool, &mut one, first, 1));
+    let Some(second) = take(&pool, &mut one) else {
         panic!(rt; "one is free")
     };
-    assert!(rt; !posts(&pool, &mut seat, second, 2));
+    let Err(second) = post(&pool, &mut one, second, 2) else {
+        panic!(rt; "the ready cell is full")
+    };
+    assert!(rt; second.has(1));
+    assert!(rt; claims(&pool, &mut two));
+    assert!(rt; posts(&pool, &mut one, second, 3));
     Ok(())
 }
 

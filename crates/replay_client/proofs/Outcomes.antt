@@ -1,18 +1,22 @@
--- What a client does about a start, a packet and a tick, by the process that does it.
-use Rattle.std.proofs.Common.{◌≡◌, ℕ, ◌+◌, ◌≤◌, ◌<◌, List, Option, Some, None, true, false, ap, sym, subst, ◌∙◌, refl}
-use Rattle.std.proofs.lemmas.Bool.{cond-true, cond-false, le-leb, lt-leb}
-use Rattle.call_rules.specs.Packet.{Packet}
+-- What a client does about a start, numbers that are passed over, a restart, a packet and a tick, by the process that
+-- does it.
+use Rattle.std.proofs.Common.{◌≡◌, ℕ, ◌+◌, ◌≤◌, ◌<◌, List, [], ◌∷◌, Option, Some, None, true, false, ap, sym, subst, ◌∙◌, refl}
+use Rattle.std.proofs.lemmas.Bool.{cond-true, cond-false, le-leb, lt-leb, le-ltb, lt-ltb}
+use Rattle.rpc_header.specs.declared.Activity.{Activity}
+use Rattle.call_rules.specs.Packet.{Call, Packet}
+use Rattle.binder.specs.Interfaces.{bind_data}
 use Rattle.call_rules.specs.Caller.{is_idle, current_call}
 use Rattle.replay_model.specs.declared.event.CallWord.{CallWord}
 use Rattle.replay_model.specs.declared.discard.Discard.TheVariants as why
 use Rattle.replay_model.specs.Service.{procedure_of, arguments_of}
-use Rattle.replay_model.specs.Process.{Line, LineStep, started, ticked}
-use Rattle.replay_model.specs.World.{World, Client, numbered, number_limit}
-use Rattle.replay_model.specs.Step.{Outcome, discarded, impossible, nothing, does, starts, too_fast, next_call, call_by, client_takes, line_takes, ticks_line, with_client, with_line}
+use Rattle.replay_model.specs.Process.{Line, LineStep, started, binds, ticked}
+use Rattle.replay_model.specs.Record.{Binds, Skips, Restarts}
+use Rattle.replay_model.specs.World.{World, Client, numbered, number_limit, last_number, test_name, booted_client}
+use Rattle.replay_model.specs.Step.{Outcome, discarded, impossible, nothing, does, starts, starts_bind, too_fast, next_call, call_by, bind_by, skips, skip_by, boots_client, behind, client_takes, line_takes, ticks_line, with_client, with_line}
 use Rattle.replay_client.specs.declared.told.Told.{Told}
 use Rattle.replay_client.specs.declared.line.Took.{Took}
 use Rattle.replay_client.specs.Told.{StepsAs, TellsAs}
-use Rattle.replay_client.specs.Client.{StartsAs, TookAs}
+use Rattle.replay_client.specs.Client.{StartsAs, BeginsAs, TookAs}
 use Rattle.replay_client.proofs.Steps.{told_outcome}
 
 pub call_by-none : (w : World) (machine process : ℕ) (c : Client) (asked : CallWord) → numbered 1 c.lines process ≡ None → call_by w machine process c (numbered 1 c.lines process) asked ≡ impossible w
@@ -51,6 +55,82 @@ call_by-started w machine process c l new asked after told procedure arguments h
       tells = rw client (told_outcome w machine process (record c { read = w.second }) new told s g);
       outcome = call_by-starts w machine process c l asked h idle soon;
     }
+
+-- The start of a bind.
+
+pub bind_by-none : (w : World) (machine process : ℕ) (c : Client) (name : List ℕ) → numbered 1 c.lines process ≡ None → bind_by w machine process c (numbered 1 c.lines process) name ≡ impossible w
+unfolding bind_by
+bind_by-none w machine process c name h = ap (λ (o : Option Line). bind_by w machine process c o name) h
+
+pub bind_by-busy : (w : World) (machine process : ℕ) (c : Client) (l : Line) (name : List ℕ) → numbered 1 c.lines process ≡ Some l → is_idle l.caller.state ≡ false → bind_by w machine process c (numbered 1 c.lines process) name ≡ impossible w
+unfolding bind_by
+bind_by-busy w machine process c l name h idle = ap (λ (o : Option Line). bind_by w machine process c o name) h ∙ cond-false _ _ _ idle
+
+pub bind_by-fast : (w : World) (machine process : ℕ) (c : Client) (l : Line) (name : List ℕ) → numbered 1 c.lines process ≡ Some l → is_idle l.caller.state ≡ true → number_limit w.second ≤ l.next → bind_by w machine process c (numbered 1 c.lines process) name ≡ too_fast w machine c l
+unfolding bind_by
+bind_by-fast w machine process c l name h idle late =
+    ap (λ (o : Option Line). bind_by w machine process c o name) h ∙ (cond-true _ _ _ idle ∙ cond-true _ _ _ (le-leb _ _ late))
+
+bind_by-starts : (w : World) (machine process : ℕ) (c : Client) (l : Line) (name : List ℕ) → numbered 1 c.lines process ≡ Some l → is_idle l.caller.state ≡ true → l.next < number_limit w.second → bind_by w machine process c (numbered 1 c.lines process) name ≡ starts_bind w machine process c l name
+unfolding bind_by
+bind_by-starts w machine process c l name h idle soon =
+    ap (λ (o : Option Line). bind_by w machine process c o name) h ∙ (cond-true _ _ _ idle ∙ cond-false _ _ _ (lt-leb _ _ soon))
+
+-- a bind takes the number of the call that was due next
+begun_bind : (me : ℕ) (l : Line) (bytes : List ℕ) → current_call (binds me l bytes).line.caller ≡ next_call l
+unfolding binds
+begun_bind me l bytes = refl
+
+pub bind_by-started : (w : World) (machine process : ℕ) (c : Client) (l new : Line) (name : List ℕ) (after : Client) (told : Told) (bytes : List ℕ) → numbered 1 c.lines process ≡ Some l → is_idle l.caller.state ≡ true → l.next < number_limit w.second → after ≡ with_line (record c { read = w.second }) process new → bytes ≡ bind_data (test_name name) → StepsAs new told (binds machine l bytes) → BeginsAs (with_client w machine after) told (bind_by w machine process c (numbered 1 c.lines process) name)
+bind_by-started w machine process c l new name after told bytes h idle soon client eb steps =
+    let s : LineStep = binds machine l (bind_data (test_name name)) in
+    let g : StepsAs new told s = rw eb at steps in
+    let first : Outcome = does w machine process (record c { read = w.second }) s in
+    record {
+      first = first;
+      tells = rw client (told_outcome w machine process (record c { read = w.second }) new told s g);
+      outcome =
+          bind_by-starts w machine process c l name h idle soon
+          ∙ ap (λ (x : Call). behind (Binds x) first) (sym (g.call ∙ begun_bind machine l (bind_data (test_name name))));
+    }
+
+-- Numbers that are passed over.
+
+pub skip_by-none : (w : World) (machine process : ℕ) (c : Client) (by : ℕ) → numbered 1 c.lines process ≡ None → skip_by w machine process c (numbered 1 c.lines process) by ≡ impossible w
+unfolding skip_by
+skip_by-none w machine process c by h = ap (λ (o : Option Line). skip_by w machine process c o by) h
+
+pub skip_by-busy : (w : World) (machine process : ℕ) (c : Client) (l : Line) (by : ℕ) → numbered 1 c.lines process ≡ Some l → is_idle l.caller.state ≡ false → skip_by w machine process c (numbered 1 c.lines process) by ≡ impossible w
+unfolding skip_by
+skip_by-busy w machine process c l by h idle = ap (λ (o : Option Line). skip_by w machine process c o by) h ∙ cond-false _ _ _ idle
+
+pub skip_by-past : (w : World) (machine process : ℕ) (c : Client) (l : Line) (by : ℕ) → numbered 1 c.lines process ≡ Some l → is_idle l.caller.state ≡ true → last_number < l.next + by → skip_by w machine process c (numbered 1 c.lines process) by ≡ impossible w
+unfolding skip_by
+skip_by-past w machine process c l by h idle past =
+    ap (λ (o : Option Line). skip_by w machine process c o by) h ∙ (cond-true _ _ _ idle ∙ cond-false _ _ _ (lt-leb _ _ past))
+
+pub skip_by-skips : (w : World) (machine process : ℕ) (c after : Client) (l new : Line) (by next : ℕ) (activity : Activity) → numbered 1 c.lines process ≡ Some l → is_idle l.caller.state ≡ true → next ≡ l.next + by → next ≤ last_number → new ≡ record l { next = next } → activity ≡ l.caller.activity → after ≡ with_line c process new → skip_by w machine process c (numbered 1 c.lines process) by
+    ≡ record { world = with_client w machine after; acts = Skips activity next ∷ [] }
+unfolding skip_by
+skip_by-skips w machine process c after l new by next activity h idle en within is ea client =
+    ap (λ (o : Option Line). skip_by w machine process c o by) h
+    ∙ (cond-true _ _ _ idle
+    ∙ (ap (skips w machine process c l) (sym en)
+    ∙ (cond-true _ _ _ (le-leb _ _ within)
+    ∙ (ap (λ (x : Client). record { world = with_client w machine x; acts = Skips l.caller.activity next ∷ [] })
+    (sym (client ∙ ap (λ (x : Line). with_line c process x) is))
+    ∙ ap (λ (x : Activity). record { world = with_client w machine after; acts = Skips x next ∷ [] }) (sym ea)))))
+
+-- A restart.
+
+pub boots-late : (w : World) (machine : ℕ) (c : Client) → w.second ≤ c.read → boots_client w machine (Some c) ≡ impossible w
+boots-late w machine c late = cond-false _ _ _ (le-ltb c.read w.second late)
+
+pub boots : (w : World) (machine : ℕ) (c new : Client) → c.read < w.second → new ≡ booted_client w.second machine → boots_client w machine (Some c)
+    ≡ record { world = with_client w machine new; acts = Restarts machine w.second ∷ [] }
+boots w machine c new soon is =
+    cond-true _ _ _ (lt-ltb c.read w.second soon)
+    ∙ ap (λ (x : Client). record { world = with_client w machine x; acts = Restarts machine w.second ∷ [] }) (sym is)
 
 pub client_takes-none : (w : World) (k : ℕ) (p : Packet) (c : Client) → numbered 1 c.lines (p.header.hint + 1) ≡ None → client_takes w k p (Some c) ≡ discarded w why.NoCell
 unfolding client_takes line_takes

@@ -3,8 +3,8 @@ use Rattle.std.proofs.Common.{◌≡◌, ℕ, ◌+◌, List, [], ◌∷◌, leng
 use Rattle.std.specs.Prelude.{Result, IfOk, not, nat_eq}
 use Rattle.std.proofs.lemmas.Bool.{cond-true, cond-false, eq-eqb}
 use Rattle.call_rules.specs.Packet.{Call, Packet, call_of}
-use Rattle.call_rules.specs.Caller.{Caller, Act, Step, is_idle, is_unused, current_call, on_packet, on_start_call, on_tick}
-use Rattle.replay_model.specs.Process.{Line, LineStep, on_act, acts, started, heard, ticked}
+use Rattle.call_rules.specs.Caller.{Caller, Act, Step, is_idle, is_unused, current_call, on_packet, on_start_call, on_start_bind, on_tick}
+use Rattle.replay_model.specs.Process.{Line, LineStep, on_act, acts, started, binds, heard, ticked}
 use Rattle.replay_model.specs.Record.{Hears}
 use Rattle.replay_model.specs.World.{World, Client}
 use Rattle.replay_model.specs.Step.{does, tells, hears, line_takes, discarded, with_client, with_line}
@@ -36,6 +36,10 @@ tick_steps me r new l c a e f h = steps me r new l (on_tick l.caller) c a [] e f
 pub call_steps : {E : Type 0} (me : ℕ) (r : Result Told E) (new l : Line) (arguments kept : List ℕ) (n procedure len : ℕ) (c : Caller) (a : Act) → n ≡ l.next → kept ≡ [] → len ≡ length arguments → c ≡ (on_start_call l.caller n l.binding procedure len).caller → a ≡ (on_start_call l.caller n l.binding procedure len).act → IfOk r (λ told. StepsAs new told (on_act me (record l { next = n + 1; arguments = arguments; kept = kept }) c a [])) → IfOk r (λ told. StepsAs new told (started me l procedure arguments))
 unfolding started
 call_steps me r new l arguments kept n procedure len c a en ek el ec ea h = rw (ec, ea, en, ek, el) at h
+
+pub bind_steps : {E : Type 0} (me : ℕ) (r : Result Told E) (new l : Line) (bytes kept : List ℕ) (n : ℕ) (c : Caller) (a : Act) → n ≡ l.next → kept ≡ [] → c ≡ (on_start_bind l.caller n).caller → a ≡ (on_start_bind l.caller n).act → IfOk r (λ told. StepsAs new told (on_act me (record l { next = n + 1; arguments = bytes; kept = kept }) c a [])) → IfOk r (λ told. StepsAs new told (binds me l bytes))
+unfolding binds
+bind_steps me r new l bytes kept n c a en ek ec ea h = rw (ec, ea, en, ek) at h
 
 -- what a step says is the outcome of the model's step
 pub told_outcome : (w : World) (machine process : ℕ) (c : Client) (new : Line) (told : Told) (s : LineStep) → StepsAs new told s → TellsAs (with_client w machine (with_line c process new)) told (does w machine process c s)

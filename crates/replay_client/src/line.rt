@@ -31,6 +31,9 @@ const FIRST_BINDING: Export = Export {
 /// The first call number of each second is the second times this.
 const NUMBERS_A_SECOND: u64 = 1 << 16;
 
+/// The largest number that a call can have.
+const LAST_NUMBER: u64 = (1 << 48) - 1;
+
 /// A process that makes calls: its caller, the number of its next call, its binding, the arguments of its call
 /// (or the data of its bind), and what it has kept of a reply. Contracts see it as the line of `replay_model`.
 #[derive(Drop)]
@@ -92,6 +95,13 @@ impl ClientLine {
         self.caller.is_idle()
     }
 
+    /// Its machine and its number there.
+    pub fn activity(&self) -> Activity
+        ensures { result ≡ self.now.caller.activity }
+    {
+        self.caller.call().activity
+    }
+
     /// The number of the call or the bind that it has made last.
     pub fn number(&self) -> CallNumber
         ensures { result.value ≡ self.now.caller.number }
@@ -138,6 +148,41 @@ impl ClientLine {
         self.kept.clear();
         let action = self.caller.start_call(number, self.binding, procedure, len);
         self.act(alloc, me, Task::Call, action, &[])
+    }
+
+    /// Starts a bind of an idle process, whose packet carries these bytes. `Err` only where memory is short.
+    pub fn bind(
+        &mut self,
+        alloc: Global,
+        me: Station,
+        number: CallNumber,
+        bytes: Vec<u8>,
+    ) -> Result<Told, AllocError>
+        requires idle { self.old.caller.state ≡ rules.Idle }
+        requires next { number.value ≡ self.old.next }
+        requires short { length bytes.items ≤ PIECE }
+        ensures { IfOk result (λ told. StepsAs self.new told (process.binds me.machine self.old bytes.items)) }
+    {
+        let task = self.task();
+        self.next = number.value + 1;
+        self.arguments = bytes;
+        self.kept.clear();
+        let action = self.caller.start_bind(number);
+        self.act(alloc, me, task, action, &[])
+    }
+
+    /// Passes over so many call numbers, and gives the number of its next call; `None` exactly where the numbers would
+    /// be used up.
+    pub fn skip(&mut self, by: u32) -> Option<u64>
+        ensures { MatchOption result ((model.last_number < self.old.next + by) × (self.new ≡ self.old))
+            (λ next. (next ≡ self.old.next + by) × (next ≤ model.last_number) × (self.new ≡ record self.old { next = next })) }
+    {
+        let next = self.next.checked_add(u64::from(by))?;
+        if next > LAST_NUMBER {
+            return None;
+        }
+        self.next = next;
+        Some(next)
     }
 
     /// Takes a packet of the number that it waits for. `Err` only where memory is short.

@@ -5,26 +5,37 @@ ghost use Rattle.rpc_header.specs.Spelling.{HasSpelling};
 ghost use Rattle.replay_model.specs.World as model;
 ghost use Rattle.replay_model.specs.World.{numbered};
 ghost use Rattle.replay_model.specs.Step as step;
+ghost use Rattle.replay_model.specs.Script.{IsAskable};
 
 use crate::line::{ClientLine, Took};
 use crate::told::Told;
-use crate::words::{arguments_of, procedure_of};
+use crate::words::{arguments_of, bind_data_of, procedure_of};
+use binder::Name;
 use ff_io::Station;
 use replay_model::limits::LAST_PROCESS;
 use replay_model::{CallWord, Discard};
 use replay_packets::Arrived;
+use rpc_header::Activity;
 use std::alloc::{AllocError, Global};
 use std::marker::Model;
 
-/// What a client does about a start.
+/// What a client does about the start of a call, or of a bind.
 #[derive(Drop)]
 pub enum Called {
-    /// There is no such process, or it has a call open.
+    /// There is no such process, or it has a call or a bind open.
     Impossible,
     /// The process has used the numbers of this second up, and its next call has this one.
     TooFast(u64),
-    /// The call is started, and this comes of it.
+    /// It is started, and this comes of it.
     Starts(Told),
+}
+
+/// A process that has passed over call numbers.
+#[derive(Clone, Copy, PartialEq, Eq, Debug)]
+pub struct Skipped {
+    pub activity: Activity,
+    /// The number of its next call.
+    pub next: u64,
 }
 
 /// A client machine: the second in which it booted, the last second that it has read, and its processes. Contracts
@@ -46,7 +57,7 @@ impl Model for ClientMachine {
 
 impl ClientMachine {
     ghost use Rattle.replay_packets.specs.Packet.{packet_of};
-    ghost use Rattle.replay_client.specs.Client.{CallsAs, KeepsImpossible, TookAs, KeepsDropped, TicksAs};
+    ghost use Rattle.replay_client.specs.Client.{CallsAs, BindsAs, KeepsImpossible, SkipsAs, RestartsAs, TookAs, KeepsDropped, TicksAs};
 
     /// The machine of this number, which boots in this second. `Err` only where memory is short.
     pub fn boot(alloc: Global, boot: u32, machine: u8) -> Result<Self, AllocError>
@@ -69,7 +80,8 @@ impl ClientMachine {
         word: CallWord,
         second: u32,
     ) -> Result<Called, AllocError>
-        requires { 1 ≤ process }
+        requires process { 1 ≤ process }
+        requires asked { IsAskable word }
         ensures outcome { IfOk result (λ called. (w : model.World) → CallsAs (record w { second = second }) me.machine self.new called
             (step.call_by (record w { second = second }) me.machine process self.old (numbered 1 self.old.lines process) word)) }
         ensures impossible { IfOk result (λ called. KeepsImpossible called self.old self.new) }
@@ -90,6 +102,72 @@ impl ClientMachine {
         let told = line.call(alloc, me, number, procedure_of(word), arguments)?;
         self.read = second;
         Ok(Called::Starts(told))
+    }
+
+    /// A process is asked to start a bind to a name. The machine reads the second, but where the start is impossible.
+    /// `Err` only where memory is short; then nothing is said of the machine.
+    pub fn bind(
+        &mut self,
+        alloc: Global,
+        me: Station,
+        process: u8,
+        name: &Name,
+        second: u32,
+    ) -> Result<Called, AllocError>
+        requires { 1 ≤ process }
+        ensures outcome { IfOk result (λ called. (w : model.World) → BindsAs (record w { second = second }) me.machine self.new called
+            (step.bind_by (record w { second = second }) me.machine process self.old (numbered 1 self.old.lines process) name.now)) }
+        ensures impossible { IfOk result (λ called. KeepsImpossible called self.old self.new) }
+    {
+        let place = usize::from(process) - 1;
+        if place >= self.lines.len() {
+            return Ok(Called::Impossible);
+        }
+        let line = &mut self.lines[place];
+        if !line.is_idle() {
+            return Ok(Called::Impossible);
+        }
+        let Some(number) = line.next_number(second) else {
+            self.read = second;
+            return Ok(Called::TooFast(line.next()));
+        };
+        let told = line.bind(alloc, me, number, bind_data_of(alloc, name)?)?;
+        self.read = second;
+        Ok(Called::Starts(told))
+    }
+
+    /// An idle process passes over so many call numbers. `None` exactly where there is no such process, it isn't idle,
+    /// or its numbers would be used up.
+    pub fn skip(&mut self, process: u8, by: u32) -> Option<Skipped>
+        requires { 1 ≤ process }
+        ensures outcome { (w : model.World) (machine : ℕ) → SkipsAs w machine self.new result
+            (step.skip_by w machine process self.old (numbered 1 self.old.lines process) by) }
+        ensures impossible { result ≡ None → self.new ≡ self.old }
+    {
+        let place = usize::from(process) - 1;
+        if place >= self.lines.len() {
+            return None;
+        }
+        let line = &mut self.lines[place];
+        if !line.is_idle() {
+            return None;
+        }
+        let activity = line.activity();
+        let next = line.skip(by)?;
+        Some(Skipped { activity, next })
+    }
+
+    /// Boots anew, as the machine of this number, in a second, and answers whether it did: not where it has read the
+    /// second already. `Err` only where memory is short.
+    pub fn restart(&mut self, alloc: Global, machine: u8, second: u32) -> Result<bool, AllocError>
+        ensures { IfOk result (λ booted. (w : model.World) → RestartsAs (record w { second = second }) machine self.old self.new booted
+            (step.boots_client (record w { second = second }) machine (Some self.old))) }
+    {
+        if second <= self.read {
+            return Ok(false);
+        }
+        *self = ClientMachine::boot(alloc, second, machine)?;
+        Ok(true)
     }
 
     /// Takes a packet that has come to this machine, for the process that the packet's hint names. `Err` only where

@@ -1,10 +1,11 @@
 //! A client machine, by its public calls.
 
-use crate::{Called, ClientMachine, Said, Took, arguments_of, procedure_of};
+use crate::{Called, ClientMachine, Said, Skipped, Took, arguments_of, procedure_of};
+use binder::{Name, read_name};
 use ff_io::Station;
 use replay_model::{CallWord, Discard};
 use replay_packets::{Arrived, SERVER};
-use rpc_header::{Header, Kind, fits};
+use rpc_header::{Activity, Header, Kind, fits};
 use std::alloc::Global;
 use std::test::Fail;
 
@@ -135,5 +136,77 @@ fn a_process_sends_its_call_again_at_the_fourth_tick(rt: HostRuntime) -> Result<
         ..header
     };
     assert!(rt; *packet.header() == again);
+    Ok(())
+}
+
+/// The number of the call that a process starts in a second.
+fn number_at(client: &mut ClientMachine, alloc: Global, second: u32) -> Result<u64, Fail> {
+    match client.call(alloc, CLIENT, 1, CallWord::Null, second)? {
+        Called::Starts(told) => Ok(told.call.number.value),
+        Called::Impossible => Err("impossible".into()),
+        Called::TooFast(_) => Err("too fast".into()),
+    }
+}
+
+#[test]
+fn a_client_that_boots_anew_begins_with_its_second(rt: HostRuntime) -> Result<(), Fail> {
+    let alloc = rt.alloc();
+    let mut client = ClientMachine::boot(alloc, 1, 2)?;
+    assert!(rt; number_at(&mut client, alloc, 1)? == 65536);
+    assert!(rt; !client.restart(alloc, 2, 1)?);
+    assert!(rt; client.restart(alloc, 2, 3)?);
+    assert!(rt; number_at(&mut client, alloc, 3)? == 3 * 65536);
+    Ok(())
+}
+
+#[test]
+fn numbers_are_passed_over_to_the_last_of_the_second(rt: HostRuntime) -> Result<(), Fail> {
+    let alloc = rt.alloc();
+    let mut client = ClientMachine::boot(alloc, 1, 2)?;
+    let Some(Skipped { activity, next }) = client.skip(1, 65535) else {
+        return Err("numbers".into());
+    };
+    let first = Activity {
+        machine: 2,
+        process: 1,
+    };
+    assert!(rt; activity == first && next == 131_071);
+    assert!(rt; number_at(&mut client, alloc, 1)? == 131_071);
+    assert!(rt; client.skip(1, 1).is_none());
+    let called = client.call(alloc, CLIENT, 1, CallWord::Null, 1)?;
+    assert!(rt; matches!(called, Called::Impossible));
+    assert!(rt; client.skip(2, 65536).is_some());
+    let called = client.call(alloc, CLIENT, 2, CallWord::Null, 1)?;
+    assert!(rt; matches!(called, Called::TooFast(131_072)));
+    Ok(())
+}
+
+/// The header and the data of the packet by which a process binds to a name.
+fn bind(client: &mut ClientMachine, alloc: Global, name: &Name) -> Result<(Header, bool), Fail> {
+    let Called::Starts(told) = client.bind(alloc, CLIENT, 1, name, 1)? else {
+        return Err("a start".into());
+    };
+    let Said::Sends(packet) = told.said else {
+        return Err("a packet".into());
+    };
+    let header = *packet.header();
+    let data = packet.sent();
+    Ok((
+        header,
+        data.frame().get(74..) == Some(b"\x04Test\x04echo".as_slice()),
+    ))
+}
+
+#[test]
+fn a_bind_carries_its_name(rt: HostRuntime) -> Result<(), Fail> {
+    let alloc = rt.alloc();
+    let mut client = ClientMachine::boot(alloc, 1, 2)?;
+    let Some(name) = read_name(b"echo") else {
+        return Err("a name".into());
+    };
+    let (header, carries) = bind(&mut client, alloc, &name)?;
+    assert!(rt; header.kind == Kind::Bind && carries);
+    let again = client.bind(alloc, CLIENT, 1, &name, 1)?;
+    assert!(rt; matches!(again, Called::Impossible));
     Ok(())
 }

@@ -46,7 +46,14 @@ pub fn put_start(out: &mut Vec<u8>, call: CallId) -> Result<(), AllocError>
     writeln!(out, "start {}", CallText(call))
 }
 
-/// Appends the line of a refused start, with the number that it would have had, and the second.
+/// Appends the line of a bind that was started.
+pub fn put_bind(out: &mut Vec<u8>, call: CallId) -> Result<(), AllocError>
+    ensures { OnOk result (out.new.items ≡ out.old.items ++ lines_of_act (act.Binds (call_of call))) }
+{
+    writeln!(out, "bind {}", CallText(call))
+}
+
+/// Appends the line of a refused start of a call or a bind, with the number that it would have had, and the second.
 pub fn put_too_fast(out: &mut Vec<u8>, number: u64, second: u32) -> Result<(), AllocError>
     ensures { (activity : Activity) →
         OnOk result (out.new.items ≡ out.old.items ++ lines_of_act (act.TooFast activity number second)) }

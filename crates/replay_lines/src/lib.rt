@@ -8,6 +8,7 @@ mod bytes;
 mod calls;
 mod counts;
 mod deliveries;
+mod lives;
 mod packets;
 mod runs;
 mod short;
@@ -15,11 +16,12 @@ mod text;
 mod work;
 
 pub use calls::{
-    put_bind_failure, put_bound, put_failure, put_impossible, put_quiet, put_refusal, put_return,
-    put_start, put_too_fast, put_unbound, put_waiting,
+    put_bind, put_bind_failure, put_bound, put_failure, put_impossible, put_quiet, put_refusal,
+    put_return, put_start, put_too_fast, put_unbound, put_waiting,
 };
 pub use counts::{Counts, put_end};
 pub use deliveries::{put_discard, put_frame, put_ready};
+pub use lives::{put_export, put_no_export, put_restarted, put_second, put_skipped, put_withdrawn};
 pub use packets::put_packet;
 pub use runs::put_runs;
 pub use text::Print;

@@ -9,7 +9,7 @@ ghost use Rattle.replay_model.specs.Digests.{run_digest};
 use crate::bytes::{BytesText, ReplyText};
 use crate::calls::CallText;
 use crate::text::Print;
-use replay_model::{ADD, BUMP, NULL, RunLine};
+use replay_model::{ADD, BUMP, MAX_ARG, MAX_RESULT, NULL, RunLine};
 use std::alloc::AllocError;
 use std::fmt::{self, Display, Formatter};
 
@@ -59,6 +59,8 @@ impl Display for ProcedureText {
             NULL => f.write_str("null"),
             ADD => f.write_str("add"),
             BUMP => f.write_str("bump"),
+            MAX_ARG => f.write_str("maxarg"),
+            MAX_RESULT => f.write_str("maxresult"),
             number => write!(f, "{number}"),
         }
     }

@@ -1,6 +1,7 @@
 //! Each kind of line once. The texts are those of worked transcripts.
 
 use super::*;
+use binder::ExportFault;
 use call_rules::{Did, Unfit};
 use lane_checksum::digest_of;
 use replay_model::{Discard, RunLine};
@@ -80,6 +81,37 @@ fn calls_wait_and_fail_and_names_are_bound(rt: HostRuntime) -> Result<(), Fail> 
     put_unbound(&mut out, call)?;
     put_quiet(&mut out)?;
     assert_eq!(rt; out.as_slice(), ENDINGS);
+    Ok(())
+}
+
+const LIVES: &[u8] = b"second 2\n\
+restarted 1 2\n\
+bind 2.1 65536\n\
+export 1 2\n\
+noexport Exists\n\
+noexport Full\n\
+noexport TooFast 2 1\n\
+withdrawn 1\n\
+skipped 2.1 131072\n";
+
+#[test]
+fn names_are_exported_and_machines_boot_anew(rt: HostRuntime) -> Result<(), Fail> {
+    let call = first_call().ok_or("a call number")?;
+    let export = Export {
+        identifier: 2,
+        index: 1,
+    };
+    let mut out = Vec::new(rt.alloc());
+    put_second(&mut out, 2)?;
+    put_restarted(&mut out, 1, 2)?;
+    put_bind(&mut out, call)?;
+    put_export(&mut out, export)?;
+    put_no_export(&mut out, ExportFault::Exists)?;
+    put_no_export(&mut out, ExportFault::Full)?;
+    put_no_export(&mut out, ExportFault::TooFast { next: 2, now: 1 })?;
+    put_withdrawn(&mut out, 1)?;
+    put_skipped(&mut out, call.activity, 131_072)?;
+    assert_eq!(rt; out.as_slice(), LIVES);
     Ok(())
 }
 
@@ -189,6 +221,8 @@ const ENDS: &[u8] = b"journal empty\n\
 run 1 2.1 65536 null 0: -> 0:\n\
 run 2 2.1 65536 add 17:#0908 -> !0\n\
 run 3 2.1 65536 bump 4:00000005 -> 4:00000007\n\
+run 4 2.1 65536 maxarg 1441:#5616 -> 0:\n\
+run 5 2.1 65536 maxresult 4:000167fd -> !1\n\
 end runs 3 returned 1 signalled 1 failed 2 refused 1\n";
 
 #[test]
@@ -210,6 +244,12 @@ fn runs_are_listed_and_counted(rt: HostRuntime) -> Result<(), Fail> {
     counts.count_failure();
     counts.count_failure();
     counts.count_refusal();
+    let text = long_result(alloc)?;
+    let Some(arguments) = text.get(..1441) else {
+        return Err("a text".into());
+    };
+    runs.push(RunLine::new(call, 3, arguments, false, &[]))?;
+    runs.push(RunLine::new(call, 4, &[0, 1, 0x67, 0xfd], true, &[0, 1]))?;
     put_runs(&mut out, &runs)?;
     put_end(&mut out, &counts)?;
     assert_eq!(rt; out.as_slice(), ENDS);

@@ -8,7 +8,7 @@ use Rattle.call_rules.specs.Packet.{Call, Fields}
 use Rattle.call_rules.specs.declared.caller.TheConstants.{TRIES}
 use Rattle.replay_model.specs.Digests.{RunDigest, run_digest}
 use Rattle.replay_model.specs.Record as act
-use Rattle.replay_model.specs.Lines.{EndsLine, lines_of_act, lines_of, return_line, failure_line, journal_lines, run_lines, run_line, run_text, packet_line, header_text, end_line, newline, blank, call_text, bytes_text, exception_number, hex, discard_text, did_text}
+use Rattle.replay_model.specs.Lines.{EndsLine, lines_of_act, lines_of, return_line, failure_line, journal_lines, run_lines, run_line, run_text, packet_line, header_text, end_line, newline, blank, activity_text, call_text, no_export_text, bytes_text, exception_number, hex, discard_text, did_text}
 
 pub EndsLine-append : (these those : List ℕ) → EndsLine these → EndsLine those → EndsLine (these ++ those)
 EndsLine-append these those p (inl none) =
@@ -50,6 +50,8 @@ failure_ends c (act.RefusedFor reason) = ends (codes "refused " ++ call_text c +
 
 pub act_ends : (a : act.Act) → EndsLine (lines_of_act a)
 act_ends act.Impossible = ends (codes "impossible")
+act_ends (act.Seconds second) = ends (codes "second " ++ decimal second)
+act_ends (act.Binds call) = ends (codes "bind " ++ call_text call)
 act_ends (act.Starts s) = ends (codes "start " ++ call_text s.call)
 act_ends (act.TooFast a number second) = ends (codes "nostart TooFast " ++ decimal number ++ blank ++ decimal second)
 act_ends (act.CallerSends k p) = packet_ends k p.from p.to p.header (length p.payload)
@@ -69,6 +71,11 @@ act_ends (act.Idles number) = ends (codes "worker " ++ decimal number ++ codes "
 act_ends (act.Works number n did) = ends (codes "worker " ++ decimal number ++ blank ++ did_text n did)
 act_ends (act.HasRun run) = inl refl
 act_ends (act.Rejects k rows) = inl refl
+act_ends (act.Exports export) = ends (codes "export " ++ decimal export.index ++ blank ++ decimal export.identifier)
+act_ends (act.NoExport fault) = ends (codes "noexport " ++ no_export_text fault)
+act_ends (act.Withdraws index) = ends (codes "withdrawn " ++ decimal index)
+act_ends (act.Restarts machine second) = ends (codes "restarted " ++ decimal machine ++ blank ++ decimal second)
+act_ends (act.Skips a next) = ends (codes "skipped " ++ activity_text a ++ blank ++ decimal next)
 act_ends (act.Shows k bytes) = ends (codes "frame " ++ decimal k ++ blank ++ decimal (length bytes) ++ blank ++ hex bytes)
 act_ends (act.ListsRuns runs) = journal_ends (map run_digest runs)
 act_ends (act.Ends counts) = end_ends counts

@@ -1,7 +1,7 @@
 -- The forms of a script's lines, as one table: a row for each form, with what each word of its lines must be.
 use Rattle.std.specs.Prelude.{ℕ, List, [], ◌∷◌, ◌++◌, Option, Some, None, codes}
 use Rattle.std.specs.List.{slice_index_or}
-use Rattle.replay_model.specs.declared.limits.TheConstants.{SERVER_MACHINE, FIRST_CLIENT, LAST_CLIENT, LAST_PROCESS, LAST_WORKER, LAST_BIT, LARGEST_COUNT, LARGEST_NUMBER}
+use Rattle.replay_model.specs.declared.limits.TheConstants.{SERVER_MACHINE, FIRST_CLIENT, LAST_CLIENT, LAST_PROCESS, LAST_WORKER, LAST_BIT, LARGEST_COUNT, LARGEST_TEXT, LARGEST_NUMBER}
 use Rattle.replay_model.specs.declared.event.CallWord.TheVariants as word
 use Rattle.replay_model.specs.declared.event.Event.{Event}
 use Rattle.replay_model.specs.declared.event.Event.TheVariants as event
@@ -35,6 +35,14 @@ number_said (Text word) = 0
 
 abbrev pub number_at : ℕ → List Value → ℕ
 number_at place values = number_said (slice_index_or values place (Numeral 0))
+
+-- the name that it says
+abbrev pub name_said : Value → List ℕ
+name_said (Numeral n) = []
+name_said (Text word) = word
+
+abbrev pub name_at : ℕ → List Value → List ℕ
+name_at place values = name_said (slice_index_or values place (Numeral 0))
 
 -- the kinds of numbers
 abbrev pub client : Place
@@ -74,8 +82,10 @@ call_forms =
     ∷ built (call (codes "add") (any_number ∷ any_number ∷ []))
     (λ v. event.Call (number_at 1 v) (number_at 2 v) (word.Add (number_at 4 v) (number_at 5 v)))
     ∷ built (call (codes "bump") (any_number ∷ [])) (λ v. event.Call (number_at 1 v) (number_at 2 v) (word.Bump (number_at 4 v)))
-    ∷ not_yet (call (codes "maxarg") (Number 0 92156 ∷ []))
-    ∷ not_yet (call (codes "maxresult") (any_number ∷ []))
+    ∷ built (call (codes "maxarg") (Number 0 LARGEST_TEXT ∷ []))
+    (λ v. event.Call (number_at 1 v) (number_at 2 v) (word.MaxArg (number_at 4 v)))
+    ∷ built (call (codes "maxresult") (any_number ∷ []))
+    (λ v. event.Call (number_at 1 v) (number_at 2 v) (word.MaxResult (number_at 4 v)))
     ∷ not_yet (call (codes "bigarg") (Number 0 368636 ∷ []))
     ∷ not_yet (call (codes "bigresult") (any_number ∷ []))
     ∷ []
@@ -83,18 +93,19 @@ call_forms =
 abbrev pub other_forms : List Form
 other_forms =
     not_yet (The (codes "pool") ∷ Number 2 3000 ∷ Number 0 1000 ∷ [])
-    ∷ not_yet (The (codes "second") ∷ time ∷ [])
-    ∷ not_yet (The (codes "bind") ∷ client ∷ process ∷ Name ∷ [])
+    ∷ built (The (codes "second") ∷ time ∷ []) (λ v. event.Second (number_at 1 v))
+    ∷ built (The (codes "bind") ∷ client ∷ process ∷ Name ∷ []) (λ v. event.Bind (number_at 1 v) (number_at 2 v) (name_at 3 v))
     ∷ built (The (codes "tick") ∷ client ∷ process ∷ []) (λ v. event.Tick (number_at 1 v) (number_at 2 v) 1)
     ∷ built (The (codes "tick") ∷ client ∷ process ∷ count ∷ [])
     (λ v. event.Tick (number_at 1 v) (number_at 2 v) (number_at 3 v))
     ∷ built (The (codes "deliver") ∷ packet ∷ []) (λ v. event.Deliver (number_at 1 v))
     ∷ built (The (codes "damage") ∷ packet ∷ bit ∷ []) (λ v. event.Damage (number_at 1 v) (number_at 2 v))
     ∷ built (The (codes "work") ∷ worker ∷ []) (λ v. event.Work (number_at 1 v))
-    ∷ not_yet (The (codes "export") ∷ Name ∷ [])
-    ∷ not_yet (The (codes "withdraw") ∷ Name ∷ [])
-    ∷ not_yet (The (codes "restart") ∷ machine ∷ [])
-    ∷ not_yet (The (codes "skip") ∷ client ∷ process ∷ time ∷ [])
+    ∷ built (The (codes "export") ∷ Name ∷ []) (λ v. event.Export (name_at 1 v))
+    ∷ built (The (codes "withdraw") ∷ Name ∷ []) (λ v. event.Withdraw (name_at 1 v))
+    ∷ built (The (codes "restart") ∷ machine ∷ []) (λ v. event.Restart (number_at 1 v))
+    ∷ built (The (codes "skip") ∷ client ∷ process ∷ time ∷ [])
+    (λ v. event.Skip (number_at 1 v) (number_at 2 v) (number_at 3 v))
     ∷ built (The (codes "show") ∷ packet ∷ []) (λ v. event.Show (number_at 1 v))
     ∷ not_yet (The (codes "holders") ∷ machine ∷ [])
     ∷ not_yet (The (codes "sweep") ∷ [])

@@ -13,6 +13,8 @@ use Rattle.rpc_header.specs.declared.HeaderFault.{HeaderFault}
 use Rattle.rpc_header.specs.declared.HeaderFault.TheVariants as header_fault
 use Rattle.rpc_header.specs.declared.Kind.{Kind}
 use Rattle.rpc_header.specs.declared.Kind.TheVariants as kind
+use Rattle.binder.specs.declared.row.ExportFault.{ExportFault}
+use Rattle.binder.specs.declared.row.ExportFault.TheVariants as export_fault
 use Rattle.call_rules.specs.Packet.{Call, Fields}
 use Rattle.call_rules.specs.declared.caller.TheConstants.{TRIES}
 use Rattle.call_rules.specs.declared.worker.Did.{Did}
@@ -88,7 +90,9 @@ abbrev pub procedure_text : ℕ → List ℕ
 procedure_text zero = codes "null"
 procedure_text (suc zero) = codes "add"
 procedure_text (suc (suc zero)) = codes "bump"
-procedure_text (suc (suc (suc n))) = decimal (suc (suc (suc n)))
+procedure_text (suc (suc (suc zero))) = codes "maxarg"
+procedure_text (suc (suc (suc (suc zero)))) = codes "maxresult"
+procedure_text (suc (suc (suc (suc (suc n))))) = decimal (suc (suc (suc (suc (suc n)))))
 
 -- a signal by its number behind a mark
 abbrev pub reply_text : Bool → Digest → List ℕ
@@ -200,6 +204,13 @@ abbrev pub bound_line : Call → Export → List ℕ
 bound_line call export =
     codes "bound " ++ call_text call ++ blank ++ decimal export.index ++ blank ++ decimal export.identifier ++ newline
 
+-- why a name isn't exported
+abbrev pub no_export_text : ExportFault → List ℕ
+no_export_text export_fault.Exists = codes "Exists"
+no_export_text export_fault.Full = codes "Full"
+no_export_text (export_fault.TooFast next second) = codes "TooFast " ++ decimal next ++ blank ++ decimal second
+no_export_text export_fault.Memory = codes "Memory"
+
 -- a frame by its length and its bytes
 abbrev pub frame_line : ℕ → List ℕ → List ℕ
 frame_line k bytes = codes "frame " ++ decimal k ++ blank ++ decimal (length bytes) ++ blank ++ hex bytes ++ newline
@@ -207,6 +218,8 @@ frame_line k bytes = codes "frame " ++ decimal k ++ blank ++ decimal (length byt
 -- the lines of one thing that happens
 abbrev pub lines_of_act : Act → List ℕ
 lines_of_act act.Impossible = codes "impossible" ++ newline
+lines_of_act (act.Seconds second) = codes "second " ++ decimal second ++ newline
+lines_of_act (act.Binds call) = codes "bind " ++ call_text call ++ newline
 lines_of_act (act.Starts s) = codes "start " ++ call_text s.call ++ newline
 lines_of_act (act.TooFast a number second) = codes "nostart TooFast " ++ decimal number ++ blank ++ decimal second ++ newline
 lines_of_act (act.CallerSends k p) = packet_line k p.from p.to p.header (length p.payload)
@@ -225,6 +238,12 @@ lines_of_act (act.Idles number) = codes "worker " ++ decimal number ++ codes " i
 lines_of_act (act.Works number n step) = codes "worker " ++ decimal number ++ blank ++ did_text n step ++ newline
 lines_of_act (act.HasRun run) = []
 lines_of_act (act.Rejects k rows) = []
+lines_of_act (act.Exports export) =
+    codes "export " ++ decimal export.index ++ blank ++ decimal export.identifier ++ newline
+lines_of_act (act.NoExport fault) = codes "noexport " ++ no_export_text fault ++ newline
+lines_of_act (act.Withdraws index) = codes "withdrawn " ++ decimal index ++ newline
+lines_of_act (act.Restarts machine second) = codes "restarted " ++ decimal machine ++ blank ++ decimal second ++ newline
+lines_of_act (act.Skips a next) = codes "skipped " ++ activity_text a ++ blank ++ decimal next ++ newline
 lines_of_act (act.Shows k bytes) = frame_line k bytes
 lines_of_act (act.ListsRuns runs) = journal_lines (map run_digest runs)
 lines_of_act (act.Ends counts) = end_line counts

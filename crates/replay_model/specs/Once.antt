@@ -39,7 +39,7 @@ pub record TellsRun (r : Records) (x : Return) : Type 0 where
   pub same_signal : run.signal ≡ x.signal
   pub same_reply : run.reply ≡ x.reply
 
--- a mark of the activity itself: a packet follows those that were sent before it, and nothing else does
+-- the packets that are counted up to a mark, from those before it: a begin and a packet that is heard leave none
 abbrev pub sent_at : Mark → List ℕ → List ℕ
 sent_at Begin before = []
 sent_at (SentPacket k) before = k ∷ before

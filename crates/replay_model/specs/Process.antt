@@ -3,7 +3,7 @@ use Rattle.std.specs.Prelude.{ℕ, ◌+◌, List, [], ◌++◌, length, Option, 
 use Rattle.rpc_header.specs.declared.Export.{Export}
 use Rattle.fragments.specs.Pieces.{piece}
 use Rattle.call_rules.specs.Packet.{Fields, Packet}
-use Rattle.call_rules.specs.Caller.{Caller, Act, Send, Keep, Last, TellsWaiting, Bound, Unbound, Refused, Failed, Quiet, Unused, Step, current_call, is_binding, on_start_call, on_packet, on_tick}
+use Rattle.call_rules.specs.Caller.{Caller, Act, Send, Keep, Last, TellsWaiting, Bound, Unbound, Refused, Failed, Quiet, Unused, Step, current_call, is_binding, on_start_call, on_start_bind, on_packet, on_tick}
 use Rattle.replay_model.specs.Record.{Return, Cause, Unanswered, RefusedFor}
 use Rattle.replay_model.specs.declared.limits.TheConstants.{SERVER_MACHINE}
 
@@ -73,6 +73,10 @@ takes_number l arguments = record l { next = l.next + 1; arguments = arguments; 
 unfoldable pub started : (me : ℕ) → Line → (procedure : ℕ) → (arguments : List ℕ) → LineStep
 started me l procedure arguments =
     acts me (takes_number l arguments) (on_start_call l.caller l.next l.binding procedure (length arguments)) []
+
+-- an idle process starts a bind, whose data is that of the name
+unfoldable pub binds : (me : ℕ) → Line → (bytes : List ℕ) → LineStep
+binds me l bytes = acts me (takes_number l bytes) (on_start_bind l.caller l.next) []
 
 -- a packet comes
 unfoldable pub heard : (me : ℕ) → Line → Packet → LineStep

@@ -4,6 +4,7 @@ use Rattle.std.specs.Prelude.{ℕ, List, [], ◌∷◌, ◌++◌, length, filter
 use Rattle.rpc_header.specs.declared.Activity.{Activity}
 use Rattle.rpc_header.specs.declared.Export.{Export}
 use Rattle.binder.specs.declared.row.ExportRow.{ExportRow}
+use Rattle.binder.specs.declared.row.ExportFault.{ExportFault}
 use Rattle.call_rules.specs.Packet.{Call, Packet}
 use Rattle.call_rules.specs.Worker.{Run}
 use Rattle.call_rules.specs.declared.worker.Did.{Did}
@@ -85,7 +86,10 @@ counts_of r =
 -- one thing that happens in an event
 pub data Act : Type 0 where
   Impossible : Act
+  -- the world's second is this one now
+  Seconds : (second : ℕ) → Act
   Starts : Start → Act
+  Binds : Call → Act
   -- a refused start, with the number that it would have had, and the second
   TooFast : (activity : Activity) → (number : ℕ) → (second : ℕ) → Act
   -- a client, or the server, sends a packet, which has this number
@@ -112,6 +116,14 @@ pub data Act : Type 0 where
   HasRun : Run → Act
   -- a packet that was sent is a Reject; rows are the export rows at that step
   Rejects : (packet : ℕ) → (rows : List (Option ExportRow)) → Act
+  -- a name is exported, or not, or an export is taken back
+  Exports : Export → Act
+  NoExport : ExportFault → Act
+  Withdraws : (index : ℕ) → Act
+  -- a machine has booted in this second
+  Restarts : (machine second : ℕ) → Act
+  -- an activity's next number is this one now
+  Skips : Activity → (next : ℕ) → Act
   -- the frame of a packet is printed
   Shows : (number : ℕ) → (bytes : List ℕ) → Act
   ListsRuns : List Run → Act
@@ -123,6 +135,7 @@ with_mark r activity mark = record r { marks = record { activity = activity; mar
 -- what is kept of one thing that happens
 abbrev pub recorded : Records → Act → Records
 recorded r (Starts s) = record (with_mark r s.call.activity Begin) { started = r.started ++ s ∷ [] }
+recorded r (Binds call) = with_mark r call.activity Begin
 recorded r (CallerSends k p) = with_mark r p.header.call.activity (SentPacket k)
 recorded r (Hears activity k) = with_mark r activity (Heard k)
 recorded r (Returns x) = record r { returns = r.returns ++ x ∷ [] }

@@ -4,11 +4,14 @@ use Rattle.std.specs.Prelude.{ℕ, zero, suc, ◌+◌, ◌*◌, List, [], ◌∷
 use Rattle.std.specs.Option.{option_map}
 use Rattle.udp_frames.specs.Damage.{flipped}
 use Rattle.rpc_header.specs.declared.Activity.{Activity}
+use Rattle.rpc_header.specs.declared.Export.{Export}
 use Rattle.binder.specs.declared.row.ExportRow.{ExportRow}
 use Rattle.binder.specs.declared.row.Verdict.{Verdict}
 use Rattle.binder.specs.declared.row.Verdict.TheVariants as verdict
-use Rattle.binder.specs.Exports.{accepts, look_up}
-use Rattle.binder.specs.Interfaces.{name_in}
+use Rattle.binder.specs.declared.row.ExportFault.{ExportFault}
+use Rattle.binder.specs.declared.interface.InterfaceName.{InterfaceName}
+use Rattle.binder.specs.Exports.{accepts, look_up, export_fault, exported, next_export, withdrawn}
+use Rattle.binder.specs.Interfaces.{name_in, bind_data}
 use Rattle.call_rules.specs.Packet.{Call, Packet}
 use Rattle.call_rules.specs.Entry.{Entry, Empty}
 use Rattle.call_rules.specs.Caller as caller
@@ -17,15 +20,15 @@ use Rattle.call_rules.specs.Worker as worker
 use Rattle.replay_model.specs.declared.event.CallWord.{CallWord}
 use Rattle.replay_model.specs.declared.event.Event.{Event}
 use Rattle.replay_model.specs.declared.event.Event.TheVariants as event
-use Rattle.replay_model.specs.declared.limits.TheConstants.{SERVER_MACHINE, FIRST_CLIENT, READY_CELLS}
+use Rattle.replay_model.specs.declared.limits.TheConstants.{SERVER_MACHINE, FIRST_CLIENT, READY_CELLS, SERVICE_PROCEDURES}
 use Rattle.replay_model.specs.Service.{Served, served, procedure_of, arguments_of}
 use Rattle.replay_model.specs.declared.discard.Discard.{Discard}
 use Rattle.replay_model.specs.declared.discard.Discard.TheVariants as why
-use Rattle.replay_model.specs.Process.{Line, LineStep, Said, SaysNothing, Sends, Waits, Returned, Fails, BindFails, BoundTo, NotBound, started, heard, ticked}
-use Rattle.replay_model.specs.Record.{Act, Impossible, Starts, TooFast, CallerSends, ServerSends, Readies, Hears, TellsWaiting, Returns, Quiet, Discards, Idles, Works, HasRun, Rejects, Shows, ListsRuns, Ends, counts_of, recorded_all}
+use Rattle.replay_model.specs.Process.{Line, LineStep, Said, SaysNothing, Sends, Waits, Returned, Fails, BindFails, BoundTo, NotBound, started, binds, heard, ticked}
+use Rattle.replay_model.specs.Record.{Act, Impossible, Seconds, Starts, Binds, TooFast, CallerSends, ServerSends, Readies, Hears, TellsWaiting, Returns, Quiet, Discards, Idles, Works, HasRun, Rejects, NoExport, Withdraws, Restarts, Skips, Shows, ListsRuns, Ends, counts_of, recorded_all}
 use Rattle.replay_model.specs.Record as act
 use Rattle.replay_model.specs.Arrival.{Arrival, Comes, Dropped, arrives, frame_of}
-use Rattle.replay_model.specs.World.{World, Client, numbered, with_numbered, packet_at, entry_at, with_entry, number_limit, has_buffer}
+use Rattle.replay_model.specs.World.{World, Client, numbered, with_numbered, packet_at, entry_at, with_entry, number_limit, last_number, test_name, booted_server, booted_client, has_buffer}
 
 -- what an event does: the world after it but for its records, and what happens
 pub record Outcome : Type 0 where
@@ -106,6 +109,45 @@ call_by w machine process c (Some l) asked =
 unfoldable pub call_event : World → (machine process : ℕ) → Option Client → CallWord → Outcome
 call_event w machine process None asked = impossible w
 call_event w machine process (Some c) asked = call_by w machine process c (numbered 1 c.lines process) asked
+
+-- Binds, and the numbers of calls.
+
+-- an idle process starts a bind to a name; its machine reads the second
+abbrev pub starts_bind : World → (machine process : ℕ) → Client → Line → (name : List ℕ) → Outcome
+starts_bind w machine process c l name =
+    behind
+    (Binds (next_call l))
+    (does w machine process (record c { read = w.second }) (binds machine l (bind_data (test_name name))))
+
+unfoldable pub bind_by : World → (machine process : ℕ) → Client → Option Line → (name : List ℕ) → Outcome
+bind_by w machine process c None name = impossible w
+bind_by w machine process c (Some l) name =
+    if caller.is_idle l.caller.state
+    then (if nat_le (number_limit w.second) l.next then too_fast w machine c l else starts_bind w machine process c l name)
+    else impossible w
+
+unfoldable pub bind_event : World → (machine process : ℕ) → Option Client → (name : List ℕ) → Outcome
+bind_event w machine process None name = impossible w
+bind_event w machine process (Some c) name = bind_by w machine process c (numbered 1 c.lines process) name
+
+-- an idle process passes over numbers, unless they would be used up
+abbrev pub skips : World → (machine process : ℕ) → Client → Line → (next : ℕ) → Outcome
+skips w machine process c l next =
+    if nat_le next last_number
+    then record {
+      world = with_client w machine (with_line c process (record l { next = next }));
+      acts = Skips l.caller.activity next ∷ [];
+    }
+    else impossible w
+
+unfoldable pub skip_by : World → (machine process : ℕ) → Client → Option Line → (count : ℕ) → Outcome
+skip_by w machine process c None count = impossible w
+skip_by w machine process c (Some l) count =
+    if caller.is_idle l.caller.state then skips w machine process c l (l.next + count) else impossible w
+
+unfoldable pub skip_event : World → (machine process : ℕ) → Option Client → (count : ℕ) → Outcome
+skip_event w machine process None count = impossible w
+skip_event w machine process (Some c) count = skip_by w machine process c (numbered 1 c.lines process) count
 
 -- one tick of a process; where there is no such process, nothing happens
 abbrev pub ticks_line : World → (machine process : ℕ) → Client → Option Line → Outcome
@@ -196,7 +238,7 @@ show_event w k (Some p) = record { world = w; acts = Shows k (frame_of p) ∷ []
 
 -- The steps of workers.
 
--- what the exports' rows say to a packet
+-- the reason for which a packet is refused, by what the exports' rows say to it
 abbrev pub refusal : Verdict → Option ℕ
 refusal verdict.Accepted = None
 refusal verdict.WrongBinding = Some 1
@@ -267,6 +309,57 @@ work_event w who (Some (Admitted p arguments)) =
 work_event w who (Some (Ran p answer)) = works w who p (on_ran p answer)
 work_event w who (Some (Fetched p)) = works w who p (on_fetched p (entry_of w p))
 
+-- The second, exports and restarts.
+
+abbrev pub second_event : World → (second : ℕ) → Outcome
+second_event w second =
+    if nat_lt w.second second then record { world = record w { second = second }; acts = Seconds second ∷ [] } else impossible w
+
+-- the server exports a name, or doesn't; it has read the second
+abbrev pub exports_unless : Option ExportFault → World → InterfaceName → Outcome
+exports_unless (Some fault) w name =
+    record { world = record w { server = record w.server { read = w.second } }; acts = NoExport fault ∷ [] }
+exports_unless None w name =
+    record {
+      world = record w { server = record w.server { read = w.second; exports = exported w.server.exports name SERVICE_PROCEDURES } };
+      acts = act.Exports (next_export w.server.exports) ∷ [];
+    }
+
+unfoldable pub export_event : World → (name : List ℕ) → Outcome
+export_event w name = exports_unless (export_fault w.server.exports (test_name name) w.second) w (test_name name)
+
+abbrev pub withdraws_if : Option Export → World → InterfaceName → Outcome
+withdraws_if None w name = impossible w
+withdraws_if (Some export) w name =
+    record {
+      world = record w { server = record w.server { exports = withdrawn w.server.exports name } };
+      acts = Withdraws export.index ∷ [];
+    }
+
+unfoldable pub withdraw_event : World → (name : List ℕ) → Outcome
+withdraw_event w name = withdraws_if (look_up w.server.exports.rows (test_name name)) w (test_name name)
+
+-- a machine boots at the world's second, which it hasn't read yet
+abbrev pub boots_server : World → Outcome
+boots_server w =
+    if nat_lt w.server.read w.second
+    then record {
+      world = record w { server = booted_server w.server.small w.server.long w.second };
+      acts = Restarts SERVER_MACHINE w.second ∷ [];
+    }
+    else impossible w
+
+abbrev pub boots_client : World → (machine : ℕ) → Option Client → Outcome
+boots_client w machine None = impossible w
+boots_client w machine (Some c) =
+    if nat_lt c.read w.second
+    then record { world = with_client w machine (booted_client w.second machine); acts = Restarts machine w.second ∷ [] }
+    else impossible w
+
+unfoldable pub restart_event : World → (machine : ℕ) → Outcome
+restart_event w machine =
+    if machine == SERVER_MACHINE then boots_server w else boots_client w machine (numbered FIRST_CLIENT w.clients machine)
+
 abbrev pub journal_event : World → Outcome
 journal_event w = record { world = w; acts = ListsRuns w.records.journal ∷ [] }
 
@@ -276,6 +369,12 @@ end_event w = record { world = w; acts = Ends (counts_of w.records) ∷ [] }
 -- what each event does
 abbrev pub outcome : World → Event → Outcome
 outcome w (event.Call machine process asked) = call_event w machine process (numbered FIRST_CLIENT w.clients machine) asked
+outcome w (event.Second second) = second_event w second
+outcome w (event.Bind machine process name) = bind_event w machine process (numbered FIRST_CLIENT w.clients machine) name
+outcome w (event.Export name) = export_event w name
+outcome w (event.Withdraw name) = withdraw_event w name
+outcome w (event.Restart machine) = restart_event w machine
+outcome w (event.Skip machine process count) = skip_event w machine process (numbered FIRST_CLIENT w.clients machine) count
 outcome w (event.Deliver k) = deliver_event w k (packet_at w.bag k)
 outcome w (event.Damage k bit) = damage_event w k bit (packet_at w.bag k)
 outcome w (event.Tick machine process count) = tick_event w machine process count

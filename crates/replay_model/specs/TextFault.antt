@@ -74,13 +74,14 @@ agrees (The text ∷ places) words = may_begin text words && agrees places (behi
 agrees (Number low high ∷ places) words = agrees places (behind_first words)
 agrees (Name ∷ places) words = agrees places (behind_first words)
 
--- the forms with which the words agree; those of them that are built; those of these that have as many words
+-- the words agree with a form that is built; and there are as many of them
 abbrev pub is_playable : List (List ℕ) → Form → Bool
 is_playable words f = is_some f.event && agrees f.places words
 
 abbrev pub is_fitting : List (List ℕ) → Form → Bool
 is_fitting words f = is_playable words f && (length f.places == length words)
 
+-- the forms with which the words agree; those of them that are built; those of these that have as many words
 abbrev pub agreeing : List (List ℕ) → List Form
 agreeing words = filter (λ f. agrees f.places words) forms
 
@@ -133,7 +134,7 @@ abbrev pub is_pool : List (List ℕ) → Bool
 is_pool [] = false
 is_pool (w ∷ ws) = bytes_eq (codes "pool") w
 
--- the tests of a line as a whole: its bytes, its place behind the end, and then its form
+-- the tests of a line's form, by its words
 abbrev pub form_checks : (begun : Bool) → List (List ℕ) → Checks
 form_checks begun words =
     (fault.Word, some (agreeing words))
@@ -142,6 +143,7 @@ form_checks begun words =
     ∷ (fault.Shape, some (fitting words))
     ∷ []
 
+-- the tests of a line as a whole: its bytes, its place behind the end, and then its form
 abbrev pub line_checks : Above → List ℕ → List (List ℕ) → Checks
 line_checks above line words =
     (fault.Byte, list_all is_byte_of_line line)

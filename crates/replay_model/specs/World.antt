@@ -1,5 +1,5 @@
 -- The world: a second, a server, its clients, every packet that was sent, and the records.
-use Rattle.std.specs.Prelude.{ℕ, ◌+◌, ◌-◌, ◌*◌, List, [], map, replicate, Option, None, slice_get, slice_set, Bool, true, ◌&&◌, nat_lt, nat_le, if◌then◌else◌, option_and_then, codes}
+use Rattle.std.specs.Prelude.{ℕ, ◌+◌, ◌-◌, ◌*◌, ◌^◌, List, [], map, replicate, Option, None, slice_get, slice_set, Bool, true, ◌&&◌, nat_lt, nat_le, if◌then◌else◌, option_and_then, codes}
 use Rattle.std.specs.List.{range_with_len}
 use Rattle.rpc_header.specs.declared.Activity.{Activity}
 use Rattle.rpc_header.specs.declared.Export.{Export}
@@ -9,7 +9,7 @@ use Rattle.call_rules.specs.Packet.{Packet}
 use Rattle.call_rules.specs.Entry.{Entry, Empty}
 use Rattle.call_rules.specs.Worker.{Worker, Resting}
 use Rattle.call_rules.specs.Caller.{idle}
-use Rattle.replay_model.specs.declared.limits.TheConstants.{FIRST_CLIENT, LAST_CLIENT, CLIENTS, LAST_PROCESS, LAST_WORKER}
+use Rattle.replay_model.specs.declared.limits.TheConstants.{FIRST_CLIENT, LAST_CLIENT, CLIENTS, LAST_PROCESS, LAST_WORKER, SERVICE_PROCEDURES}
 use Rattle.replay_model.specs.Process.{Line}
 use Rattle.replay_model.specs.Record.{Records, no_records}
 
@@ -72,6 +72,10 @@ with_entry entries a e = if is_entry_activity a then slice_set entries (entry_pl
 abbrev pub first_number : ℕ → ℕ
 first_number boot = boot * 65536
 
+-- the largest number that a call can have
+abbrev pub last_number : ℕ
+last_number = 2 ^ 48 - 1
+
 -- the least number that a call may not have yet, by the second
 abbrev pub number_limit : ℕ → ℕ
 number_limit second = (second + 1) * 65536
@@ -80,12 +84,13 @@ number_limit second = (second + 1) * 65536
 abbrev pub first_binding : Export
 first_binding = record { identifier = 1; index = 0 }
 
--- the export that a server boots with, and its number of procedures
-abbrev pub main_name : InterfaceName
-main_name = record { kind = codes "Test"; instance = codes "main" }
+-- the names of a script are instances of one type
+abbrev pub test_name : List ℕ → InterfaceName
+test_name instance = record { kind = codes "Test"; instance = instance }
 
-abbrev pub service_procedures : ℕ
-service_procedures = 5
+-- the export that a server boots with
+abbrev pub main_name : InterfaceName
+main_name = test_name (codes "main")
 
 abbrev pub booted_server : (small long boot : ℕ) → Server
 booted_server small long boot =
@@ -94,7 +99,7 @@ booted_server small long boot =
       long = long;
       boot = boot;
       read = boot;
-      exports = exported (booted boot) main_name service_procedures;
+      exports = exported (booted boot) main_name SERVICE_PROCEDURES;
       entries = replicate (CLIENTS * LAST_PROCESS) Empty;
       workers = replicate LAST_WORKER Resting;
       ready = [];

@@ -31,8 +31,8 @@ pub enum Discard {
     /// Its hint names no process of the client.
     #[error("a hint that names no process of the client")]
     NoCell,
-    /// The packet is of an earlier call.
-    #[error("a packet of an earlier call")]
+    /// The process has no call or bind of the packet's number open.
+    #[error("a packet of a call that isn't open")]
     Stale,
     /// The process holds a packet already.
     #[error("the process holds a packet already")]

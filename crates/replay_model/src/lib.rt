@@ -15,12 +15,14 @@ mod run_line;
 mod text_fault;
 
 pub use discard::Discard;
-pub use event::{ADD, BUMP, CallWord, Event, NULL};
+pub use event::{ADD, BUMP, CallWord, Event, MAX_ARG, MAX_RESULT, NULL};
 pub use laws::fields_are_a_header;
 pub use line_laws::acts_print_whole_lines;
 pub use run_line::RunLine;
 pub use text_fault::TextFault;
 
+#[cfg(test)]
+mod life_tests;
 #[cfg(test)]
 mod row_tests;
 #[cfg(test)]

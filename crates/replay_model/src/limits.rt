@@ -2,6 +2,7 @@
 //! here once: the definitions cite it, and so does the code of the parser and of the player.
 
 pub use binder::EXPORT_ROWS;
+use fragments::LONG;
 use udp_frames::LARGEST_FRAME;
 
 /// The server's machine.
@@ -33,6 +34,12 @@ pub const LONG_BUFFERS: usize = 72;
 
 /// The last bit of the largest frame. Bits are numbered from 0.
 pub const LAST_BIT: u16 = (8 * LARGEST_FRAME - 1) as u16;
+
+/// The procedures of the test service.
+pub const SERVICE_PROCEDURES: u16 = 5;
+
+/// The most bytes that the test service takes or gives: with their count they fill the longest text.
+pub const LARGEST_TEXT: u32 = (LONG - 4) as u32;
 
 /// The most ticks of one line.
 pub const LARGEST_COUNT: u16 = 1000;

@@ -17,6 +17,8 @@ pub use machine::ServerMachine;
 pub use step::{Adds, Stepped, Worked};
 
 #[cfg(test)]
+mod life_tests;
+#[cfg(test)]
 mod row_tests;
 #[cfg(test)]
 mod tests;

@@ -3,32 +3,30 @@
 ghost use Rattle.std.specs.Prelude.{◌≡◌, ◌≤◌, ◌+◌, ◌*◌, ◌<◌, List, [], ◌∷◌, ◌++◌, length, Some, None, unwrap_or, replicate, nat_lt, slice_set, slice_get, IfOk, MatchOption, if◌then◌else◌};
 ghost use Rattle.std.specs.Option.{option_map};
 ghost use Rattle.rpc_header.specs.Spelling.{HasSpelling};
-ghost use Rattle.binder.specs.Exports.{booted, exported};
+ghost use Rattle.binder.specs.Exports.{booted, exported, look_up, withdrawn};
 ghost use Rattle.call_rules.specs.Packet.{Packet};
 ghost use Rattle.call_rules.specs.Entry as entry;
 ghost use Rattle.call_rules.specs.Worker as rules;
 ghost use Rattle.replay_model.specs.World as model;
 ghost use Rattle.replay_model.specs.World.{World, numbered};
 ghost use Rattle.replay_model.specs.Step as step;
+ghost use Rattle.replay_server.specs.Lives.{Exporting};
 
 use crate::entry::Entry;
 use crate::idle_rules::on_idle;
 use crate::step::{Step, Stepped, Worked};
 use crate::task_rules::on_task;
 use crate::worker::{Task, Worker};
-use binder::{Exports, InterfaceName, read_name};
+use binder::{ExportFault, Exports, InterfaceName, Name, read_name};
 use call_rules::Seen;
 use replay_model::limits::{
-    CLIENTS, FIRST_CLIENT, LAST_CLIENT, LAST_PROCESS, LAST_WORKER, READY_CELLS,
+    CLIENTS, FIRST_CLIENT, LAST_CLIENT, LAST_PROCESS, LAST_WORKER, READY_CELLS, SERVICE_PROCEDURES,
 };
-use replay_packets::{Arrived, Packet};
-use rpc_header::Activity;
+use replay_packets::{Arrived, Packet, test_name};
+use rpc_header::{Activity, Export};
 use std::alloc::{AllocError, Global};
 use std::collections::VecDeque;
 use std::marker::Model;
-
-/// The number of procedures of the test service.
-const SERVICE_PROCEDURES: u16 = 5;
 
 /// The server machine. Callers see the server of the definitions.
 #[derive(Drop)]
@@ -64,6 +62,7 @@ impl Model for ServerMachine {
 
 impl ServerMachine {
     ghost use Rattle.replay_packets.specs.Packet.{packet_of};
+    ghost use Rattle.replay_server.specs.Lives.{ExportsAs, WithdrawsAs, RestartsAs};
     ghost use Rattle.replay_server.specs.Rules.{Keeps};
     ghost use Rattle.replay_server.specs.Stepped.{WorksAs, StepsAs, KeepsIdle};
     ghost use Rattle.replay_server.specs.Worker.{worker_of, worker_at};
@@ -117,6 +116,42 @@ impl ServerMachine {
             Some(task) => Ok(Worked::Step(self.go_on(alloc, place, task)?)),
             None => self.claim_next(alloc, place),
         }
+    }
+
+    /// Exports the test service by a name, in a second, which the server has read then, also where it refuses. `Err`
+    /// of the outer result only where memory is short.
+    pub fn export(
+        &mut self,
+        alloc: Global,
+        name: Name,
+        second: u32,
+    ) -> Result<Result<Export, ExportFault>, AllocError>
+        ensures { IfOk result (λ exported. (w : World) → ExportsAs (record w { server = self.old; second = second }) self.new exported
+            (step.export_event (record w { server = self.old; second = second }) name)) }
+    {
+        self.read = second;
+        export_name(&mut self.exports, alloc, test_name(&name), second)
+    }
+
+    /// Takes the export of a name back, and gives its index, or `None` exactly where the name isn't exported.
+    pub fn withdraw(&mut self, name: Name) -> Option<u16>
+        ensures { (w : World) → WithdrawsAs (record w { server = self.old }) self.new result
+            (step.withdraw_event (record w { server = self.old }) name) }
+    {
+        withdraw_name(&mut self.exports, test_name(&name))
+    }
+
+    /// Boots anew in a second, and answers whether it did: not where it has read the second already. `Err` only where
+    /// memory is short.
+    pub fn restart(&mut self, alloc: Global, second: u32) -> Result<bool, AllocError>
+        ensures { IfOk result (λ booted. (w : World) → RestartsAs (record w { server = self.old; second = second }) self.old self.new booted
+            (step.boots_server (record w { server = self.old; second = second }))) }
+    {
+        if second <= self.read {
+            return Ok(false);
+        }
+        *self = ServerMachine::boot(alloc, self.small, self.long, second)?;
+        Ok(true)
     }
 
     /// A worker with a task does what is next. The machine has its task no more.
@@ -250,7 +285,7 @@ impl ServerMachine {
 
 /// The exports of a server that boots in a second: the test service.
 fn boot_exports(alloc: Global, boot: u32) -> Result<Exports, AllocError>
-    ensures { IfOk result (λ exports. exports ≡ exported (booted boot) model.main_name model.service_procedures) }
+    ensures { IfOk result (λ exports. exports ≡ exported (booted boot) model.main_name SERVICE_PROCEDURES) }
 {
     let mut exports = Exports::boot(boot);
     match exports.export(alloc, main_name(), SERVICE_PROCEDURES, boot) {
@@ -260,14 +295,35 @@ fn boot_exports(alloc: Global, boot: u32) -> Result<Exports, AllocError>
     }
 }
 
-/// The name of the test service.
+/// Exports the test service by a name, or tells why not. `Err` of the outer result only where memory is short.
+fn export_name(
+    exports: &mut Exports,
+    alloc: Global,
+    name: InterfaceName,
+    second: u32,
+) -> Result<Result<Export, ExportFault>, AllocError>
+    ensures { IfOk result (λ exported. Exporting exports.old exports.new name second exported) }
+{
+    match exports.export(alloc, name, SERVICE_PROCEDURES, second) {
+        Err(ExportFault::Memory) => Err(AllocError),
+        exported => Ok(exported),
+    }
+}
+
+/// Takes the export of a name back, if there is one, and gives its index.
+fn withdraw_name(exports: &mut Exports, name: InterfaceName) -> Option<u16>
+    ensures index { result ≡ option_map (λ (export : Export). export.index) (look_up exports.old.rows name) }
+    ensures exports { exports.new ≡ withdrawn exports.old name }
+{
+    let export = exports.withdraw(&name)?;
+    Some(export.index)
+}
+
+/// The name that the test service boots with.
 fn main_name() -> InterfaceName
     ensures { result ≡ model.main_name }
 {
-    InterfaceName {
-        kind: read_name(b"Test").unwrap(),
-        instance: read_name(b"main").unwrap(),
-    }
+    test_name(&read_name(b"main").unwrap())
 }
 
 fn boot_entries(alloc: Global) -> Result<Vec<Entry>, AllocError>

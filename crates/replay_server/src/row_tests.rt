@@ -2,7 +2,8 @@
 //! machine 2, where they are of no other.
 
 use crate::trial::{
-    ACK, ACKED, Added, CALL, CallerPacket, Line, PROBE, RESULT, ServerPacket, booted, first_other,
+    ACK, ACKED, Added, CALL, CallerPacket, EARLIER, FIRST, LATER, Line, PROBE, RESULT, SECOND,
+    ServerPacket, booted, first_other,
 };
 use Added::{Nothing, Packet, Run};
 use Line::{One, Take, Two};
@@ -17,33 +18,12 @@ const ASKING: CallerPacket = CallerPacket {
     ..CALL
 };
 
-const EARLIER: CallerPacket = CallerPacket {
-    number: 65535,
-    ..CALL
-};
-
-const LATER: CallerPacket = CallerPacket {
-    number: 65537,
-    ..CALL
-};
-
 const LATER_PROBE: CallerPacket = CallerPacket {
     number: 65537,
     ..PROBE
 };
 
-/// The first pieces of a call of three.
-const FIRST: CallerPacket = CallerPacket {
-    last: false,
-    len: 1440,
-    ..ASKING
-};
-
-const SECOND: CallerPacket = CallerPacket {
-    fragment: 1,
-    ..FIRST
-};
-
+/// The last piece of a call of three.
 const LAST: CallerPacket = CallerPacket {
     fragment: 2,
     len: 5,

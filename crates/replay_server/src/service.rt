@@ -8,7 +8,9 @@ ghost use Rattle.replay_server.specs.Service.{served_of};
 
 use crate::texts::Answer;
 use byteorder::{BigEndian, ByteOrder};
-use replay_model::{ADD, BUMP, NULL};
+use replay_model::limits::LARGEST_TEXT;
+use replay_model::{ADD, BUMP, MAX_ARG, MAX_RESULT, NULL};
+use replay_packets::counted_text;
 use std::alloc::{AllocError, Global};
 
 /// An answer, and the service's total after it.
@@ -46,6 +48,10 @@ pub fn serve(
         BUMP if arguments.len() == NUMBER_BYTES => {
             bump(alloc, total, BigEndian::read_u32(arguments))
         }
+        MAX_ARG if is_counted(arguments) => reply(alloc, total, &[]),
+        MAX_RESULT if arguments.len() == NUMBER_BYTES => {
+            give_text(alloc, total, BigEndian::read_u32(arguments))
+        }
         _ => raise(alloc, total, BAD_ARGUMENTS),
     }
 }
@@ -68,6 +74,31 @@ fn bump(alloc: Global, total: u32, n: u32) -> Result<Served, AllocError>
         Some(sum) => reply_number(alloc, sum, sum),
         None => raise(alloc, total, OVERFLOW),
     }
+}
+
+/// Whether these are bytes behind their count, and not too many.
+fn is_counted(arguments: &[u8]) -> bool
+    ensures { result ≡ rules.is_counted arguments.now }
+{
+    if arguments.len() < NUMBER_BYTES {
+        return false;
+    }
+    let count = BigEndian::read_u32(arguments);
+    arguments.len() == NUMBER_BYTES + count as usize && count <= LARGEST_TEXT
+}
+
+/// A text of so many bytes, or the exception where it would be too long.
+fn give_text(alloc: Global, total: u32, count: u32) -> Result<Served, AllocError>
+    ensures { IfOk result (λ s. served_of s ≡ rules.gives_text total count) }
+{
+    if count > LARGEST_TEXT {
+        return raise(alloc, total, OVERFLOW);
+    }
+    let answer = Answer {
+        signal: false,
+        reply: counted_text(alloc, count)?,
+    };
+    Ok(Served { answer, total })
 }
 
 /// Answers with a number.

@@ -2,6 +2,7 @@
 //! and what that added.
 
 use crate::{Adds, ServerMachine, Worked};
+use binder::{Name, read_name};
 use call_rules::Did;
 use ff_io::Station;
 use replay_packets::{Outgoing, SERVER, arrive};
@@ -16,7 +17,7 @@ pub const SERVICE: Export = Export {
 };
 
 /// A packet of a caller: its kind, whether it asks for an acknowledgement and is the last piece, the number of its
-/// call, its fragment, and how many bytes of data it has.
+/// call, its fragment, how many bytes of data it has, and what it calls.
 #[derive(Clone, Copy)]
 pub struct CallerPacket {
     pub kind: Kind,
@@ -25,6 +26,8 @@ pub struct CallerPacket {
     pub number: u64,
     pub fragment: u16,
     pub len: usize,
+    pub export: Export,
+    pub procedure: u16,
 }
 
 /// The whole of a call.
@@ -35,6 +38,31 @@ pub const CALL: CallerPacket = CallerPacket {
     number: 65536,
     fragment: 0,
     len: 0,
+    export: SERVICE,
+    procedure: 0,
+};
+
+pub const EARLIER: CallerPacket = CallerPacket {
+    number: 65535,
+    ..CALL
+};
+
+pub const LATER: CallerPacket = CallerPacket {
+    number: 65537,
+    ..CALL
+};
+
+/// The first piece of a call of several.
+pub const FIRST: CallerPacket = CallerPacket {
+    please_ack: true,
+    last: false,
+    len: 1440,
+    ..CALL
+};
+
+pub const SECOND: CallerPacket = CallerPacket {
+    fragment: 1,
+    ..FIRST
 };
 
 pub const ACK: CallerPacket = CallerPacket {
@@ -87,12 +115,23 @@ pub enum Added {
     Rejection(ServerPacket),
 }
 
-/// One line of a table: a packet comes, or worker 1 or 2 does a step in which it does and adds this.
+/// One line of a table.
 #[derive(Clone, Copy)]
 pub enum Line {
+    /// A packet comes.
     Take(CallerPacket),
+    /// Worker 1 does a step in which it does and adds this.
     One(Did, Added),
+    /// Worker 2 does.
     Two(Did, Added),
+    /// Worker 1 finds nothing to do.
+    Idle,
+    /// The test service is exported by its name, in a second.
+    Export(u32),
+    /// That name is withdrawn.
+    Withdraw,
+    /// The server boots anew, in a second.
+    Restart(u32),
 }
 
 pub fn booted(alloc: Global) -> Result<ServerMachine, Fail> {
@@ -132,8 +171,8 @@ pub fn header_of(packet: CallerPacket) -> Result<Header, Fail> {
         call: CallId { activity, number },
         hint: 0,
         fragment: packet.fragment,
-        export: SERVICE,
-        procedure: 0,
+        export: packet.export,
+        procedure: packet.procedure,
     })
 }
 
@@ -185,12 +224,25 @@ pub fn told(worked: &Worked) -> Option<(Did, Added)> {
     }
 }
 
+fn is_idle(worked: &Worked) -> bool {
+    matches!(worked, Worked::Idle)
+}
+
+/// The name that some bytes are.
+pub fn name(bytes: &[u8]) -> Result<Name, Fail> {
+    Ok(read_name(bytes).ok_or("a name")?)
+}
+
 /// Whether a line comes about.
 fn comes_about(alloc: Global, server: &mut ServerMachine, line: Line) -> Result<bool, Fail> {
     match line {
         Line::Take(packet) => take_packet(alloc, server, packet),
         Line::One(did, added) => Ok(told(&server.work(alloc, 1)?) == Some((did, added))),
         Line::Two(did, added) => Ok(told(&server.work(alloc, 2)?) == Some((did, added))),
+        Line::Idle => Ok(is_idle(&server.work(alloc, 1)?)),
+        Line::Export(second) => Ok(server.export(alloc, name(b"main")?, second)?.is_ok()),
+        Line::Withdraw => Ok(server.withdraw(name(b"main")?).is_some()),
+        Line::Restart(second) => Ok(server.restart(alloc, second)?),
     }
 }
 

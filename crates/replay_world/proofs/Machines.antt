@@ -1,15 +1,21 @@
 -- What the machines' clauses say over a world for whose machines they stand.
-use Rattle.std.proofs.Common.{◌≡◌, ℕ, Option, Some, None, subst, refl, ◌∙◌}
+use Rattle.std.proofs.Common.{◌≡◌, ℕ, List, Bool, Option, Some, None, Result, subst, refl, ◌∙◌}
+use Rattle.rpc_header.specs.declared.Export.{Export}
+use Rattle.binder.specs.declared.row.ExportFault.{ExportFault}
 use Rattle.call_rules.specs.Packet.{Packet}
 use Rattle.replay_model.specs.declared.event.CallWord.{CallWord}
 use Rattle.replay_model.specs.World.{World, Server, Client, numbered}
-use Rattle.replay_model.specs.Step.{work_event, call_by, client_takes, ticks_line}
+use Rattle.replay_model.specs.Step.{work_event, call_by, bind_by, skip_by, boots_client, boots_server, export_event, withdraw_event, client_takes, ticks_line}
 use Rattle.replay_server.specs.declared.step.Worked.{Worked}
 use Rattle.replay_server.specs.Stepped.{WorksAs, KeepsIdle}
+use Rattle.replay_server.specs.Lives.{ExportsAs, WithdrawsAs}
+use Rattle.replay_server.specs.Lives as server
 use Rattle.replay_client.specs.declared.line.Took.{Took}
 use Rattle.replay_client.specs.declared.machine.Called.{Called}
+use Rattle.replay_client.specs.declared.machine.Skipped.{Skipped}
 use Rattle.replay_client.specs.declared.told.Told.{Told}
-use Rattle.replay_client.specs.Client.{CallsAs, KeepsImpossible, TookAs, KeepsDropped, TicksAs}
+use Rattle.replay_client.specs.Client.{CallsAs, BindsAs, KeepsImpossible, SkipsAs, TookAs, KeepsDropped, TicksAs}
+use Rattle.replay_client.specs.Client as client
 use Rattle.replay_world.specs.Stands.{IsServer, IsClient}
 
 -- a worker has stepped, and the machine stands for this server
@@ -69,3 +75,55 @@ pub ticked_in : (w : World) (machine process : ℕ) (c old now : Client) (told :
 ticked_in w machine process c old now told is by nobody =
     let P : Client → Type 0 = λ x. TicksAs w machine now told (ticks_line w machine process x (numbered 1 x.lines process)) in
     record { client = now; is_client = refl; outcome = subst P is (by w); nobody = λ none. nobody none ∙ is }
+
+-- a client has been asked for a bind
+pub bound_in : (w : World) (second machine process : ℕ) (c old now : Client) (name : List ℕ) (called : Called) → second ≡ w.second → IsClient old c
+    → ((v : World) → BindsAs (record v { second = second }) machine now called (bind_by (record v { second = second }) machine process old (numbered 1 old.lines process) name))
+    → BindsAs w machine now called (bind_by w machine process c (numbered 1 c.lines process) name)
+bound_in w second machine process c old now name called at is told =
+    let T : ℕ → Type 0 = λ n. BindsAs (record w { second = n }) machine now called (bind_by (record w { second = n }) machine process old (numbered 1 old.lines process) name) in
+    let P : Client → Type 0 = λ x. BindsAs w machine now called (bind_by w machine process x (numbered 1 x.lines process) name) in
+    subst P is (subst T at (told w))
+
+-- a process of a client has passed over numbers
+pub skipped_in : (w : World) (machine process by : ℕ) (c old now : Client) (skipped : Option Skipped) → IsClient old c
+    → ((v : World) (m : ℕ) → SkipsAs v m now skipped (skip_by v m process old (numbered 1 old.lines process) by))
+    → SkipsAs w machine now skipped (skip_by w machine process c (numbered 1 c.lines process) by)
+skipped_in w machine process by c old now skipped is told =
+    let P : Client → Type 0 = λ x. SkipsAs w machine now skipped (skip_by w machine process x (numbered 1 x.lines process) by) in
+    subst P is (told w machine)
+
+-- a client has booted anew, or hasn't
+pub client_boots_in : (w : World) (second machine : ℕ) (c old now : Client) (booted : Bool) → second ≡ w.second → IsClient old c
+    → ((v : World) → client.RestartsAs (record v { second = second }) machine old now booted (boots_client (record v { second = second }) machine (Some old)))
+    → client.RestartsAs w machine c now booted (boots_client w machine (Some c))
+client_boots_in w second machine c old now booted at is told =
+    let T : ℕ → Type 0 = λ n. client.RestartsAs (record w { second = n }) machine old now booted (boots_client (record w { second = n }) machine (Some old)) in
+    let P : Client → Type 0 = λ x. client.RestartsAs w machine x now booted (boots_client w machine (Some x)) in
+    subst P is (subst T at (told w))
+
+-- the server has exported a name, or hasn't
+pub exported_in : (w : World) (second : ℕ) (old now : Server) (name : List ℕ) (exported : Result Export ExportFault) → second ≡ w.second → IsServer old w.server
+    → ((v : World) → ExportsAs (record v { server = old; second = second }) now exported (export_event (record v { server = old; second = second }) name))
+    → ExportsAs w now exported (export_event w name)
+exported_in w second old now name exported at is told =
+    let T : ℕ → Type 0 = λ n. ExportsAs (record w { server = old; second = n }) now exported (export_event (record w { server = old; second = n }) name) in
+    let P : Server → Type 0 = λ s. ExportsAs (record w { server = s }) now exported (export_event (record w { server = s }) name) in
+    subst P is (subst T at (told w))
+
+-- the server has taken an export back, or hasn't
+pub withdrawn_in : (w : World) (old now : Server) (name : List ℕ) (index : Option ℕ) → IsServer old w.server
+    → ((v : World) → WithdrawsAs (record v { server = old }) now index (withdraw_event (record v { server = old }) name))
+    → WithdrawsAs w now index (withdraw_event w name)
+withdrawn_in w old now name index is told =
+    let P : Server → Type 0 = λ s. WithdrawsAs (record w { server = s }) now index (withdraw_event (record w { server = s }) name) in
+    subst P is (told w)
+
+-- the server has booted anew, or hasn't
+pub server_boots_in : (w : World) (second : ℕ) (old now : Server) (booted : Bool) → second ≡ w.second → IsServer old w.server
+    → ((v : World) → server.RestartsAs (record v { server = old; second = second }) old now booted (boots_server (record v { server = old; second = second })))
+    → server.RestartsAs w w.server now booted (boots_server w)
+server_boots_in w second old now booted at is told =
+    let T : ℕ → Type 0 = λ n. server.RestartsAs (record w { server = old; second = n }) old now booted (boots_server (record w { server = old; second = n })) in
+    let P : Server → Type 0 = λ s. server.RestartsAs (record w { server = s }) s now booted (boots_server (record w { server = s })) in
+    subst P is (subst T at (told w))

@@ -139,6 +139,10 @@ pub on_ok_both : {T E P Q R : Type 0} (r : Result T E) → (P → Q → R) → O
 on_ok_both {T} {E} {P} {Q} {R} (Ok x) f p q = f p q
 on_ok_both {T} {E} {P} {Q} {R} (Err e) f p q = tt
 
+-- the second has become another
+pub stands-second : (s : Stored) (w : World) (second : ℕ) → Stands s w → Stands (record s { second = second }) (record w { second = second })
+stands-second s w second h = record { second = refl; server = h.server; clients = h.clients; bag = h.bag; runs = h.runs; counts = h.counts }
+
 -- the server has become another
 pub stands-server : (s : Stored) (w : World) (now server : Server) → Stands s w → IsServer now server → Stands (record s { server = now }) (record w { server = server })
 stands-server s w now server h is = record { second = h.second; server = is; clients = h.clients; bag = h.bag; runs = h.runs; counts = h.counts }

@@ -1,5 +1,5 @@
 -- The events of the model by the parts of its world.
-use Rattle.std.proofs.Common.{◌≡◌, ℕ, ◌*◌, ◌≤◌, ◌<◌, [], ◌∷◌, ◌++◌, length, Option, Some, None, true, false, ap, ◌∙◌}
+use Rattle.std.proofs.Common.{◌≡◌, ℕ, ◌*◌, ◌≤◌, ◌<◌, List, [], ◌∷◌, ◌++◌, length, Option, Some, None, true, false, ap, ◌∙◌}
 use Rattle.std.specs.Prelude.{nat_lt}
 use Rattle.std.proofs.lemmas.Bool.{cond-true, cond-false, eq-eqb, ne_eqb, le-ltb, lt-ltb}
 use Rattle.udp_frames.specs.Damage.{flipped}
@@ -7,10 +7,10 @@ use Rattle.call_rules.specs.Packet.{Packet}
 use Rattle.replay_model.specs.declared.limits.TheConstants.{SERVER_MACHINE, FIRST_CLIENT, READY_CELLS}
 use Rattle.replay_model.specs.declared.event.CallWord.{CallWord}
 use Rattle.replay_model.specs.declared.discard.Discard.TheVariants as why
-use Rattle.replay_model.specs.Record.{Readies, Shows}
+use Rattle.replay_model.specs.Record.{Seconds, Readies, Shows}
 use Rattle.replay_model.specs.World.{World, Client, numbered}
 use Rattle.replay_model.specs.Arrival.{frame_of}
-use Rattle.replay_model.specs.Step.{impossible, discarded, nothing, call_by, call_event, server_takes, client_takes, machine_takes, receives, deliver_event, damage_event, show_event, ticks_client, ticks_line, tick}
+use Rattle.replay_model.specs.Step.{impossible, discarded, nothing, call_by, call_event, bind_by, bind_event, skip_by, skip_event, second_event, boots_server, boots_client, restart_event, server_takes, client_takes, machine_takes, receives, deliver_event, damage_event, show_event, ticks_client, ticks_line, tick}
 
 pub call_event-none : (w : World) (m p : ℕ) (o : Option Client) (asked : CallWord) → o ≡ None → call_event w m p o asked ≡ impossible w
 unfolding call_event
@@ -19,6 +19,36 @@ call_event-none w m p o asked h = ap (λ (x : Option Client). call_event w m p x
 pub call_event-some : (w : World) (m p : ℕ) (o : Option Client) (c : Client) (asked : CallWord) → o ≡ Some c → call_event w m p o asked ≡ call_by w m p c (numbered 1 c.lines p) asked
 unfolding call_event
 call_event-some w m p o c asked h = ap (λ (x : Option Client). call_event w m p x asked) h
+
+pub bind_event-none : (w : World) (m p : ℕ) (o : Option Client) (name : List ℕ) → o ≡ None → bind_event w m p o name ≡ impossible w
+unfolding bind_event
+bind_event-none w m p o name h = ap (λ (x : Option Client). bind_event w m p x name) h
+
+pub bind_event-some : (w : World) (m p : ℕ) (o : Option Client) (c : Client) (name : List ℕ) → o ≡ Some c → bind_event w m p o name ≡ bind_by w m p c (numbered 1 c.lines p) name
+unfolding bind_event
+bind_event-some w m p o c name h = ap (λ (x : Option Client). bind_event w m p x name) h
+
+pub skip_event-none : (w : World) (m p : ℕ) (o : Option Client) (by : ℕ) → o ≡ None → skip_event w m p o by ≡ impossible w
+unfolding skip_event
+skip_event-none w m p o by h = ap (λ (x : Option Client). skip_event w m p x by) h
+
+pub skip_event-some : (w : World) (m p : ℕ) (o : Option Client) (c : Client) (by : ℕ) → o ≡ Some c → skip_event w m p o by ≡ skip_by w m p c (numbered 1 c.lines p) by
+unfolding skip_event
+skip_event-some w m p o c by h = ap (λ (x : Option Client). skip_event w m p x by) h
+
+pub second_event-late : (w : World) (second : ℕ) → second ≤ w.second → second_event w second ≡ impossible w
+second_event-late w second h = cond-false _ _ _ (le-ltb w.second second h)
+
+pub second_event-passes : (w : World) (second : ℕ) → w.second < second → second_event w second ≡ record { world = record w { second = second }; acts = Seconds second ∷ [] }
+second_event-passes w second h = cond-true _ _ _ (lt-ltb w.second second h)
+
+pub restart_event-server : (w : World) (m : ℕ) → m ≡ SERVER_MACHINE → restart_event w m ≡ boots_server w
+unfolding restart_event
+restart_event-server w m h = cond-true _ _ _ (eq-eqb m SERVER_MACHINE h)
+
+pub restart_event-client : (w : World) (m : ℕ) → (m ≡ SERVER_MACHINE → ⊥) → restart_event w m ≡ boots_client w m (numbered FIRST_CLIENT w.clients m)
+unfolding restart_event
+restart_event-client w m h = cond-false _ _ _ (ne_eqb m SERVER_MACHINE h)
 
 pub deliver_event-none : (w : World) (k : ℕ) (o : Option Packet) → o ≡ None → deliver_event w k o ≡ impossible w
 unfolding deliver_event

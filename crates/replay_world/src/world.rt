@@ -5,11 +5,12 @@ ghost use Rattle.replay_model.specs.Record as act;
 ghost use Rattle.replay_model.specs.World as model;
 ghost use Rattle.replay_model.specs.Step as step;
 ghost use Rattle.replay_model.specs.Transcript.{lines};
-ghost use Rattle.replay_model.specs.Script.{InRange};
+ghost use Rattle.replay_model.specs.Script.{InRange, IsAskable};
 ghost use Rattle.replay_world.specs.Stored.{AllBelow, RoseByAtMost};
 ghost use Rattle.replay_world.specs.Stands.{Stands, AreClients};
 ghost use Rattle.replay_world.specs.Played.{Plays, PlaysTick};
 
+mod lives;
 mod telling;
 
 use crate::delivery::hand_over;
@@ -81,21 +82,35 @@ impl World {
             → OnOk result ((out.new.items ≡ out.old.items ++ lines w event.now) × Stands self.new (step.step w event.now)) }
         ensures few { OnOk result (RoseByAtMost 1000 self.old self.new) }
     {
-        match *event {
+        match event {
+            Event::Second(second) => self.pass(*second, out),
             Event::Call {
                 machine,
                 process,
                 word,
-            } => self.call(alloc, machine, process, word, out),
+            } => self.call(alloc, *machine, *process, *word, out),
+            Event::Bind {
+                machine,
+                process,
+                name,
+            } => self.bind(alloc, *machine, *process, name, out),
             Event::Tick {
                 machine,
                 process,
-                count,
-            } => self.ticks(alloc, machine, process, count, out),
-            Event::Deliver(packet) => self.deliver(alloc, packet, out),
-            Event::Damage { packet, bit } => self.damage(alloc, packet, bit, out),
-            Event::Show(packet) => self.show(packet, out),
-            Event::Work(worker) => self.work(alloc, worker, out),
+                times,
+            } => self.ticks(alloc, *machine, *process, *times, out),
+            Event::Deliver(packet) => self.deliver(alloc, *packet, out),
+            Event::Damage { packet, bit } => self.damage(alloc, *packet, *bit, out),
+            Event::Export(name) => self.export(alloc, name, out),
+            Event::Withdraw(name) => self.withdraw(name, out),
+            Event::Restart(machine) => self.restart(alloc, *machine, out),
+            Event::Skip {
+                machine,
+                process,
+                by,
+            } => self.skip(*machine, *process, *by, out),
+            Event::Show(packet) => self.show(*packet, out),
+            Event::Work(worker) => self.work(alloc, *worker, out),
             Event::Journal => put_runs(out, self.runs.as_slice()),
             Event::End => put_end(out, &self.counts),
         }
@@ -112,6 +127,7 @@ impl World {
     ) -> Result<(), AllocError>
         requires machine { (FIRST_CLIENT ≤ machine) × (machine ≤ LAST_CLIENT) }
         requires process { 1 ≤ process }
+        requires asked { IsAskable word }
         requires few { AllBelow (2 ^ 63) self.old }
         ensures played { (w : model.World) → Stands self.old w → OnOk result (Plays out.old.items out.new.items self.new w.records
             (step.call_event w machine process (model.numbered FIRST_CLIENT w.clients machine) word)) }

@@ -1,8 +1,10 @@
+mod Calls
 mod Checks
 mod FirstLine
 mod FirstWord
 mod LineBytes
 mod LineLaw
+mod Names
 mod Numbers
 mod Plain
 mod Positions

@@ -1,5 +1,5 @@
 -- The table of forms: what holds of each row, by tests that compute over the table, and the one row that words fit.
-use Rattle.std.proofs.Common.{◌≡◌, ℕ, zero, suc, ◌<◌, ◌^◌, ◌&&◌, ◌||◌, ◌==◌, Bool, true, false, not, List, [], ◌∷◌, length, get_or, Option, Some, None, IsTrue, ap, arith, inl, inr, sym, refl, subst, ◌∙◌}
+use Rattle.std.proofs.Common.{◌≡◌, ℕ, zero, suc, ◌<◌, ◌^◌, ◌&&◌, ◌||◌, ◌==◌, Bool, true, false, not, List, [], ◌∷◌, length, get_or, Option, Some, None, ap, arith, inl, inr, sym, refl, subst, ◌∙◌}
 use Rattle.std.specs.Prelude.{filter, nat_lt}
 use Rattle.std.specs.Option.{option_or, is_some}
 use Rattle.std.specs.List.{list_all, Contains}
@@ -7,11 +7,10 @@ use Rattle.std.specs.Str.{bytes_eq}
 use Rattle.std.proofs.lemmas.Bool.{and_parts, and_from, or_cases, ltb-true, eqb-true, eq-eqb, false_from_ne_true, both_ways, not-true}
 use Rattle.std.proofs.lemmas.Slice.Eq.{bytes_eq-Decides}
 use Rattle.replay_model.specs.Forms.{Place, The, Number, Name, Value, Numeral, Text, Form, forms}
-use Rattle.binder.specs.Names.{is_name}
 use Rattle.replay_model.specs.Script.{AllSay}
 use Rattle.replay_model.specs.TextFault.{agrees, is_playable, is_fitting, words_fault, number_fault, name_fault, value, values_of}
-use Rattle.replay_model.specs.declared.text_fault.TextFault.TheVariants as fault
-use Rattle.script_text.proofs.Numbers.{spells_number, spelled_number, passes}
+use Rattle.script_text.proofs.Names.{name_without_fault, name_passes}
+use Rattle.script_text.proofs.Numbers.{spells_number, spelled_number}
 
 same_bytes : (t w : List ℕ) → bytes_eq t w ≡ true → t ≡ w
 same_bytes t w e = (bytes_eq-Decides t w).0 e
@@ -25,14 +24,6 @@ is_small Name = true
 pub or_none : {X : Type 0} (a b : Option X) → option_or a b ≡ None → (a ≡ None) × (b ≡ None)
 or_none None b e = (refl, e)
 or_none (Some x) b e = absurd (cc)
-
-name_without_fault : (w : List ℕ) → name_fault w ≡ None → IsTrue (is_name w)
-unfolding name_fault
-name_without_fault w e = (passes fault.Name (is_name w) [] e).0
-
-name_passes : (w : List ℕ) → IsTrue (is_name w) → name_fault w ≡ None
-unfolding name_fault
-name_passes w e = rw e refl
 
 -- words that agree with the places and have no fault say what they should
 pub words_say : (ps : List Place) (ws : List (List ℕ)) → list_all is_small ps ≡ true → agrees ps ws ≡ true → length ps ≡ length ws → words_fault ps ws ≡ None → AllSay ps ws (values_of ps ws)

@@ -3,7 +3,7 @@ use Rattle.std.specs.Prelude.{◌≡◌, ℕ, List, Bool, true, false, Option, S
 use Rattle.std.specs.Option.{option_or}
 use Rattle.std.specs.List.{filter_map}
 use Rattle.replay_model.specs.Script.{Script, is_skipped, words_of, lines_of_words}
-use Rattle.replay_model.specs.TextFault.{Above, event_of, fault_by, fitting, first_of, form_checks, line_checks, number_fault, value, first_fault}
+use Rattle.replay_model.specs.TextFault.{Above, event_of, fault_by, fitting, first_of, form_checks, line_checks, name_fault, number_fault, value, first_fault}
 use Rattle.replay_model.specs.declared.event.Event.{Event}
 use Rattle.replay_model.specs.declared.text_fault.TextFault.{TextFault}
 use Rattle.script_text.specs.declared.fault.ScriptFault.{ScriptFault}
@@ -17,6 +17,11 @@ script_of s = record { small = s.small; long = s.long; events = s.events }
 abbrev pub ReadsNumber : (low high : ℕ) → List ℕ → Result ℕ TextFault → Type 0
 ReadsNumber low high word (Ok n) = (number_fault low high word ≡ None) × (n ≡ value word)
 ReadsNumber low high word (Err f) = number_fault low high word ≡ Some f
+
+-- the name that a word is, or why it is none
+abbrev pub ReadsName : List ℕ → Result (List ℕ) TextFault → Type 0
+ReadsName word (Ok name) = (name_fault word ≡ None) × (name ≡ word)
+ReadsName word (Err f) = name_fault word ≡ Some f
 
 abbrev pub fault_of_form : (begun : Bool) → List (List ℕ) → Option TextFault
 fault_of_form begun words = option_or (first_of (form_checks begun words)) (fault_by (fitting words) words)

@@ -5,6 +5,7 @@ use Rattle.replay_model.specs.Script.{is_blank, is_skipped, words_of}
 use Rattle.replay_model.specs.declared.text_fault.TextFault.{TextFault}
 use Rattle.replay_model.specs.declared.text_fault.TextFault.TheVariants as fault
 use Rattle.script_text.specs.declared.word.CallWords.{CallWords}
+use Rattle.script_text.specs.declared.word.ProcessWords.{ProcessWords}
 use Rattle.script_text.specs.declared.word.TickWords.{TickWords}
 use Rattle.script_text.specs.declared.verb.Verb.{Verb}
 use Rattle.script_text.specs.declared.verb.Verb.TheVariants as verb
@@ -63,6 +64,11 @@ abbrev pub HasTwo : List (List ℕ) → Result (Bor (List ℕ) × Bor (List ℕ)
 HasTwo words (Ok r) = words ≡ r.0.now ∷ r.1.now ∷ []
 HasTwo words (Err f) = (f ≡ fault.Shape) × (length words ≢ 2)
 
+-- the words of a process, and one more
+abbrev pub HasProcess : List (List ℕ) → Result ProcessWords TextFault → Type 0
+HasProcess words (Ok r) = words ≡ r.machine.now ∷ r.process.now ∷ r.word.now ∷ []
+HasProcess words (Err f) = (f ≡ fault.Shape) × (length words ≢ 3)
+
 -- the words of a number of ticks, which may be left out
 abbrev pub count_words : Option (Bor (List ℕ)) → List (List ℕ)
 count_words None = []
@@ -75,3 +81,7 @@ HasTicks words (Err f) = (f ≡ fault.Shape) × (length words ≢ 2) × (length 
 abbrev pub HasCall : List (List ℕ) → Result CallWords TextFault → Type 0
 HasCall words (Ok r) = words ≡ r.machine.now ∷ r.process.now ∷ r.asked.now ∷ words_of r.rest.now
 HasCall words (Err f) = (f ≡ fault.Shape) × (length words < 3)
+
+-- the words of a line that calls with this call word
+abbrev pub call_line : CallWords → List ℕ → List (List ℕ)
+call_line r asked = codes "call" ∷ r.machine.now ∷ r.process.now ∷ asked ∷ words_of r.rest.now

@@ -2,11 +2,13 @@
 //! fault.
 #![tactic(auto)]
 
+mod call;
 mod fault;
 mod laws;
 mod line;
 mod lines;
 mod number;
+mod place;
 mod script;
 mod verb;
 mod word;
@@ -16,5 +18,7 @@ pub use laws::{no_fault_where_spelled, one_reading};
 pub use lines::count_lines;
 pub use script::{Script, parse_script};
 
+#[cfg(test)]
+mod fault_tests;
 #[cfg(test)]
 mod tests;

@@ -1,18 +1,18 @@
 //! What one line of a script spells.
-ghost use Rattle.std.specs.Prelude.{◌≡◌, ◌≤◌, ◌∷◌, ℕ, List, Bool, IfOk, IfSome, codes};
+ghost use Rattle.std.specs.Prelude.{◌≡◌, ◌∷◌, ℕ, List, Bool, IfOk, IfSome, codes};
 ghost use Rattle.script_text.specs.Words.{CountsFrom, IsVerb, text_of};
-ghost use Rattle.script_text.specs.Reading.{ReadsWords, ReadsLine, ReadsNumber};
+ghost use Rattle.script_text.specs.Reading.{ReadsWords, ReadsLine};
 ghost use Rattle.replay_model.specs.Script.{InRange, is_skipped, words_of};
 ghost use Rattle.std.specs.List.{list_all};
 ghost use Rattle.replay_model.specs.TextFault.{Above, is_byte_of_line};
 
-use crate::number::{number, short_number, small_number};
-use crate::verb::{CallVerb, Verb, call_verb_of, common_verb, verb_of};
-use crate::word::{call_words, first_word, no_words, one_word, tick_words, two_words};
-use replay_model::limits::{
-    FIRST_CLIENT, LARGEST_COUNT, LARGEST_NUMBER, LAST_BIT, LAST_CLIENT, LAST_PROCESS, LAST_WORKER,
-};
-use replay_model::{CallWord, Event, TextFault};
+use crate::call::call_of;
+use crate::number::short_number;
+use crate::place::{client, machine, name, packet, process, time, worker};
+use crate::verb::{Verb, common_verb, verb_of};
+use crate::word::{first_word, no_words, one_word, process_words, tick_words, two_words};
+use replay_model::limits::{LARGEST_COUNT, LAST_BIT};
+use replay_model::{Event, TextFault};
 
 /// The event that a line spells, or nothing where it is skipped. `fine` says whether it has only bytes that a line may
 /// have, and `ended` whether a line above is the end.
@@ -73,7 +73,9 @@ fn event_of(verb: Verb, rest: &[u8]) -> Result<Event, TextFault>
     ensures in_range { IfOk result InRange }
 {
     match verb {
+        Verb::Second => Ok(Event::Second(time(one_word(rest)?)?)),
         Verb::Call => call_of(rest),
+        Verb::Bind => bind_of(rest),
         Verb::Tick => ticks_of(rest),
         Verb::Deliver => Ok(Event::Deliver(packet(one_word(rest)?)?)),
         Verb::Damage => {
@@ -83,20 +85,42 @@ fn event_of(verb: Verb, rest: &[u8]) -> Result<Event, TextFault>
                 bit: short_number(bit, 0, LAST_BIT)?,
             })
         }
-        Verb::Work => Ok(Event::Work(small_number(one_word(rest)?, 1, LAST_WORKER)?)),
+        Verb::Work => Ok(Event::Work(worker(one_word(rest)?)?)),
+        Verb::Export => Ok(Event::Export(name(one_word(rest)?)?)),
+        Verb::Withdraw => Ok(Event::Withdraw(name(one_word(rest)?)?)),
+        Verb::Restart => Ok(Event::Restart(machine(one_word(rest)?)?)),
+        Verb::Skip => skip_of(rest),
         Verb::Show => Ok(Event::Show(packet(one_word(rest)?)?)),
         Verb::Journal => no_words(rest).map(|()| Event::Journal),
         Verb::End => no_words(rest).map(|()| Event::End),
-        Verb::Pool
-        | Verb::Second
-        | Verb::Bind
-        | Verb::Export
-        | Verb::Withdraw
-        | Verb::Restart
-        | Verb::Skip
-        | Verb::Holders
-        | Verb::Sweep => Err(TextFault::NotYet),
+        Verb::Pool | Verb::Holders | Verb::Sweep => Err(TextFault::NotYet),
     }
+}
+
+/// The bind of a line that begins with `bind`.
+fn bind_of(rest: &[u8]) -> Result<Event, TextFault>
+    ensures reads { (begun : Bool) → ReadsWords begun (codes "bind" ∷ words_of rest.now) result }
+    ensures in_range { IfOk result InRange }
+{
+    let line = process_words(rest)?;
+    Ok(Event::Bind {
+        machine: client(line.machine)?,
+        process: process(line.process)?,
+        name: name(line.word)?,
+    })
+}
+
+/// The numbers that a line that begins with `skip` passes over.
+fn skip_of(rest: &[u8]) -> Result<Event, TextFault>
+    ensures reads { (begun : Bool) → ReadsWords begun (codes "skip" ∷ words_of rest.now) result }
+    ensures in_range { IfOk result InRange }
+{
+    let line = process_words(rest)?;
+    Ok(Event::Skip {
+        machine: client(line.machine)?,
+        process: process(line.process)?,
+        by: time(line.word)?,
+    })
 }
 
 /// The ticks of a line that begins with `tick`: one, where it has no number of them.
@@ -109,80 +133,12 @@ fn ticks_of(rest: &[u8]) -> Result<Event, TextFault>
         None => Ok(Event::Tick {
             machine: client(line.machine)?,
             process: process(line.process)?,
-            count: 1,
+            times: 1,
         }),
         Some(count) => Ok(Event::Tick {
             machine: client(line.machine)?,
             process: process(line.process)?,
-            count: short_number(count, 1, LARGEST_COUNT)?,
+            times: short_number(count, 1, LARGEST_COUNT)?,
         }),
     }
-}
-
-/// The call of a line that begins with `call`.
-fn call_of(rest: &[u8]) -> Result<Event, TextFault>
-    ensures reads { (begun : Bool) → ReadsWords begun (codes "call" ∷ words_of rest.now) result }
-    ensures in_range { IfOk result InRange }
-{
-    let line = call_words(rest)?;
-    let Some(verb) = call_verb_of(line.asked) else {
-        return Err(TextFault::Word);
-    };
-    match verb {
-        CallVerb::Null => {
-            no_words(line.rest)?;
-            Ok(Event::Call {
-                machine: client(line.machine)?,
-                process: process(line.process)?,
-                word: CallWord::Null,
-            })
-        }
-        CallVerb::Add => {
-            let (one, other) = two_words(line.rest)?;
-            Ok(Event::Call {
-                machine: client(line.machine)?,
-                process: process(line.process)?,
-                word: CallWord::Add(any_number(one)?, any_number(other)?),
-            })
-        }
-        CallVerb::Bump => {
-            let number = one_word(line.rest)?;
-            Ok(Event::Call {
-                machine: client(line.machine)?,
-                process: process(line.process)?,
-                word: CallWord::Bump(any_number(number)?),
-            })
-        }
-        CallVerb::MaxArg | CallVerb::MaxResult | CallVerb::BigArg | CallVerb::BigResult => Err(
-            TextFault::NotYet,
-        ),
-    }
-}
-
-fn client(word: &[u8]) -> Result<u8, TextFault>
-    ensures reads { ReadsNumber FIRST_CLIENT LAST_CLIENT word.now result }
-    ensures in_range { IfOk result (λ n. (FIRST_CLIENT ≤ n) × (n ≤ LAST_CLIENT)) }
-{
-    small_number(word, FIRST_CLIENT, LAST_CLIENT)
-}
-
-fn process(word: &[u8]) -> Result<u8, TextFault>
-    ensures reads { ReadsNumber 1 LAST_PROCESS word.now result }
-    ensures in_range { IfOk result (λ n. (1 ≤ n) × (n ≤ LAST_PROCESS)) }
-{
-    small_number(word, 1, LAST_PROCESS)
-}
-
-fn packet(word: &[u8]) -> Result<u32, TextFault>
-    ensures reads { ReadsNumber 1 LARGEST_NUMBER word.now result }
-    ensures in_range { IfOk result (λ n. (1 ≤ n) × (n ≤ LARGEST_NUMBER)) }
-{
-    number(word, 1, LARGEST_NUMBER)
-}
-
-fn any_number(word: &[u8]) -> Result<u32, TextFault>
-    ensures reads { ReadsNumber 0 LARGEST_NUMBER word.now result }
-    ensures in_range { IfOk result (λ n. n ≤ LARGEST_NUMBER) }
-{
-    number(word, 0, LARGEST_NUMBER)
 }

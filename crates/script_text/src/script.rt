@@ -62,7 +62,7 @@ fn read_events(alloc: Global, text: &[u8]) -> Result<Vec<Event>, ScriptFault>
         match read_line(first, is_fine(first, plain), ended) {
             Ok(None) => {}
             Ok(Some(event)) => {
-                ended = is_end(event);
+                ended = is_end(&event);
                 events.push(event)?;
             }
             Err(fault) => return Err(ScriptFault::at(line, fault)),
@@ -76,8 +76,8 @@ fn read_events(alloc: Global, text: &[u8]) -> Result<Vec<Event>, ScriptFault>
     }
 }
 
-fn is_end(event: Event) -> bool
-    ensures { result ≡ is_end event }
+fn is_end(event: &Event) -> bool
+    ensures { result ≡ is_end event.now }
 {
     matches!(event, Event::End)
 }

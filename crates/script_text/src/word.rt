@@ -4,7 +4,7 @@ ghost use Rattle.std.specs.List.{list_all};
 ghost use Rattle.replay_model.specs.Script.{is_blank, words_of};
 ghost use Rattle.replay_model.specs.TextFault.{is_byte_of_line};
 ghost use Rattle.script_text.specs.Lines.{is_plain, is_plain_byte};
-ghost use Rattle.script_text.specs.Words.{BeginsWithNoBlank, HasNone, HasOne, HasTwo, HasTicks, HasCall};
+ghost use Rattle.script_text.specs.Words.{BeginsWithNoBlank, HasNone, HasOne, HasTwo, HasProcess, HasTicks, HasCall};
 
 use replay_model::TextFault;
 
@@ -120,6 +120,29 @@ pub fn two_words(rest: &[u8]) -> Result<(&[u8], &[u8]), TextFault>
     };
     let other = one_word(rest)?;
     Ok((word, other))
+}
+
+/// How a line goes on behind its first word that is about a process.
+#[derive(Clone, Copy)]
+pub struct ProcessWords<'a> {
+    pub machine: &'a [u8],
+    pub process: &'a [u8],
+    pub word: &'a [u8],
+}
+
+/// The three words that stand here.
+pub fn process_words(rest: &[u8]) -> Result<ProcessWords<'_>, TextFault>
+    ensures { HasProcess (words_of rest.now) result }
+{
+    let Some((machine, rest)) = first_word(rest) else {
+        return Err(TextFault::Shape);
+    };
+    let (process, word) = two_words(rest)?;
+    Ok(ProcessWords {
+        machine,
+        process,
+        word,
+    })
 }
 
 /// How a line of ticks goes on behind its first word. Their number may be left out.

@@ -1,6 +1,7 @@
 -- Each clause is the lemma on its rows, by the laws of pieces that the function calls.
 use Rattle.lawful_rules.proofs.WorkerRows.{idle_lawful, claimed_lawful, took_lawful, admitted_lawful, ran_lawful, fetched_lawful}
-use Rattle.lawful_rules.proofs.CallerRows.{start_lawful, packet_lawful}
+use Rattle.lawful_rules.proofs.CallerRows.{packet_lawful}
+use Rattle.lawful_rules.proofs.StartRows.{start_lawful, bind_lawful}
 use Rattle.lawful_rules.proofs.TickRows.{tick_lawful}
 use Rattle.lawful_rules.proofs.rules_are_lawful.Goals as goal
 
@@ -74,6 +75,19 @@ returns-clause-start c k m process second l procedure arguments before h idle lo
       bytes = c.pieces_before_the_last_are_full.ensures.bytes;
     })
     k m process second l procedure arguments before h low early fits has
+
+pub returns-clause-bind : goal.returns-clause-bind
+returns-clause-bind c k m process second l bytes before h idle low early has short =
+    bind_lawful
+    (record {
+      none = c.fronts_grow_by_a_piece.ensures.none;
+      more = c.fronts_grow_by_a_piece.ensures.more;
+      all = c.fronts_grow_by_a_piece.ensures.all;
+      full = c.pieces_before_the_last_are_full.ensures.full;
+      fits = c.pieces_before_the_last_are_full.ensures.fits;
+      bytes = c.pieces_before_the_last_are_full.ensures.bytes;
+    })
+    k m process second l bytes before h low early has short
 
 pub returns-clause-packet : goal.returns-clause-packet
 returns-clause-packet c k m process l n p before g h answer there counted =

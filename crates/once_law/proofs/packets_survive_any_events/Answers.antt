@@ -16,6 +16,15 @@ returns c =
         spelling_bytes = c.a_spelling_is_32_bytes.ensures.bytes;
         fields_are_back = c.fields_are_a_header.ensures.of_fields;
       };
+      exports = record {
+        accepted = c.accepted_bindings_are_live.ensures.accepted;
+        found = c.a_name_is_found_in_its_row.ensures.found;
+        boots = c.exports_stay_sound.ensures.boot;
+        exports = c.exports_stay_sound.ensures.export;
+        withdraws = c.exports_stay_sound.ensures.withdraw;
+        size = c.bind_data_is_read_in_one_way.ensures.size;
+        in_time = c.an_export_is_found.ensures.in_time;
+      };
       rules = record {
         idle = c.rules_are_lawful.ensures.idle;
         claimed = c.rules_are_lawful.ensures.claimed;
@@ -24,14 +33,15 @@ returns c =
         ran = c.rules_are_lawful.ensures.ran;
         fetched = c.rules_are_lawful.ensures.fetched;
         start = c.rules_are_lawful.ensures.start;
+        bind = c.rules_are_lawful.ensures.bind;
         packet = c.rules_are_lawful.ensures.packet;
         tick = c.rules_are_lawful.ensures.tick;
       };
     } in
     record {
-      whole = λ small long events p sent. frame_comes laws.frames p (all_can_arrive laws small long events p sent);
-      damaged = λ small long events p sent bit q comes. subst (λ a. ComesAs p a) comes (damaged_frame_comes laws.frames p bit (all_can_arrive laws small long events p sent));
-      spelled = λ small long events p sent. (all_can_arrive laws small long events p sent).framed.has_spelling;
-      fields_fit = λ small long events p sent. (all_can_arrive laws small long events p sent).framed.fits_fields;
-      call_number_fits = λ small long events p sent. (all_can_arrive laws small long events p sent).framed.fits_number;
+      whole = λ small long events p r sent. frame_comes laws.frames p (all_can_arrive laws small long events p r sent);
+      damaged = λ small long events p r sent bit q comes. subst (λ a. ComesAs p a) comes (damaged_frame_comes laws.frames p bit (all_can_arrive laws small long events p r sent));
+      spelled = λ small long events p r sent. (all_can_arrive laws small long events p r sent).framed.has_spelling;
+      fields_fit = λ small long events p r sent. (all_can_arrive laws small long events p r sent).framed.fits_fields;
+      call_number_fits = λ small long events p r sent. (all_can_arrive laws small long events p r sent).framed.fits_number;
     }

@@ -8,25 +8,25 @@ use Rattle.ffrpc.proofs.replay.play.Goals as goal
 pub returns-in_err-apply-clause-err : goal.returns-in_err-apply-clause-err
 returns-in_err-apply-clause-err g c =
     let p = err_from_is_err_and c.from_residual-in_err-apply.result c.from_residual-in_err-apply.ensures.1 in
-    rw (p.1, p.2) (Playing-stop c.once_after_any_events.ensures _ _ _ _ _ _ c.loop-event.invariant.playing)
+    rw (p.1, p.2) (Playing-stop c.once_after_any_events.ensures _ c.requires.in_range _ _ _ _ _ c.loop-event.invariant.playing)
 
 pub returns-in_err-flush_full-clause-err : goal.returns-in_err-flush_full-clause-err
 returns-in_err-flush_full-clause-err g c =
     let st = c.in_ok-apply.ensures.step _ c.loop-event.invariant.playing.stands in
     let below : c.loop-event.event-index < length c.args.script.now.events = omega (arith, ap length c.as_slice-event-items.ensures) in
-    let after = Playing-event c.acts_print_whole_lines.ensures.acts c.acts_print_whole_lines.ensures.joins _ _ _ _ _ _ _ _ _ _ c.loop-event.invariant.playing below c.as_slice-event-items.ensures st.0 st.1 c.in_ok-apply.ensures.few in
+    let after = Playing-event c.acts_print_whole_lines.ensures.acts c.acts_print_whole_lines.ensures.joins _ _ _ _ _ _ _ _ _ _ c.loop-event.invariant.playing below c.as_slice-event-items.ensures c.event-item.is st.0 st.1 c.in_ok-apply.ensures.few in
     let part = c.in_err-flush_full.ensures.part in
     let p = err_from_is_err_and c.from_residual-in_err-flush_full.result c.from_residual-in_err-flush_full.ensures.1 in
     rw (p.1, p.2) (
       λ h. omega (arith, c.in_err-flush_full.ensures.failed h, c.loop-event.invariant.playing.still),
-      Playing-fail c.once_after_any_events.ensures c.told_laws.ensures.appended_in_turn _ _ _ _ _ _ _ part.0 after part.2,
+      Playing-fail c.once_after_any_events.ensures c.told_laws.ensures.appended_in_turn _ c.requires.in_range _ _ _ _ _ _ part.0 after part.2,
     )
 
 pub loop-event-preserved : goal.loop-event-preserved
 loop-event-preserved g c =
     let st = c.in_ok-apply.ensures.step _ c.loop-event.invariant.playing.stands in
     let below : c.loop-event.event-index < length c.args.script.now.events = omega (arith, ap length c.as_slice-event-items.ensures) in
-    let after = Playing-event c.acts_print_whole_lines.ensures.acts c.acts_print_whole_lines.ensures.joins _ _ _ _ _ _ _ _ _ _ c.loop-event.invariant.playing below c.as_slice-event-items.ensures st.0 st.1 c.in_ok-apply.ensures.few in
+    let after = Playing-event c.acts_print_whole_lines.ensures.acts c.acts_print_whole_lines.ensures.joins _ _ _ _ _ _ _ _ _ _ c.loop-event.invariant.playing below c.as_slice-event-items.ensures c.event-item.is st.0 st.1 c.in_ok-apply.ensures.few in
     record {
       playing = Playing-flush c.acts_print_whole_lines.ensures.joins c.told_laws.ensures.appended_in_turn _ _ _ _ _ _ _ _ after c.in_ok-flush_full.ensures.ok c.in_ok-flush_full.ensures.still;
     }
@@ -38,7 +38,7 @@ returns-in_err-write_all-clause-err g c =
     let p = err_from_is_err_and c.from_residual-in_err-write_all.result c.from_residual-in_err-write_all.ensures.1 in
     rw (p.1, p.2) (
       λ h. omega (arith, c.in_err-write_all.ensures.failed h, c.loop-event.invariant.playing.still),
-      Playing-fail c.once_after_any_events.ensures c.told_laws.ensures.appended_in_turn _ _ _ _ _ _ _ part.0 c.loop-event.invariant.playing
+      Playing-fail c.once_after_any_events.ensures c.told_laws.ensures.appended_in_turn _ c.requires.in_range _ _ _ _ _ _ part.0 c.loop-event.invariant.playing
           (subst (λ x. Wrote (take part.0 x) (output (g.K.Sink.written c.loop-event.sink) (g.K.Sink.faults c.loop-event.sink))
           (output (g.K.Sink.written c.write_all.new.sink) (g.K.Sink.faults c.write_all.new.sink))) slice part.2),
     )

@@ -20,7 +20,7 @@ returns-in-Ok-play-clause-replays g c =
         is_script = read.2.0;
         within = read.2.1;
         written = c.in-Ok-play.ensures.ok;
-        once = c.once_after_any_events.ensures c.in-Ok.script.small c.in-Ok.script.long c.in-Ok.script.events;
+        once = c.once_after_any_events.ensures c.in-Ok.script.small c.in-Ok.script.long c.in-Ok.script.events c.in-Ok.ensures.in_range;
       },
     )
 

@@ -1,4 +1,4 @@
-use Rattle.std.proofs.Common.{arith, sym, ap, ◌∙◌, ◌≡◌, ◌+◌, ◌++◌, ℕ, List, length, drop, Ok}
+use Rattle.std.proofs.Common.{arith, ap, ◌∙◌, ◌≡◌, ◌++◌, ℕ, List, length, drop, Ok}
 use Rattle.std.proofs.lemmas.List.{length-append, length-drop}
 use Rattle.rpc_header.specs.Spelling.{spelling}
 use Rattle.packet_pool.specs.Contents.{came_in, came_from}

@@ -1,4 +1,4 @@
-use Rattle.std.proofs.Common.{◌≡◌, ◌≤◌}
+use Rattle.std.proofs.Common.{◌≤◌}
 use Rattle.packet_board.specs.Hands.{HoldsNothing}
 use Rattle.packet_board.specs.Seats.{view, held, IsSameSeat}
 use Rattle.packet_pool.specs.Plain.{PostsBelow}

@@ -1,6 +1,6 @@
-use Rattle.std.proofs.Common.{◌≡◌, ◌≤◌}
+use Rattle.std.proofs.Common.{◌≤◌}
 use Rattle.packet_board.specs.Hands.{HoldsNothing}
-use Rattle.packet_board.specs.Seats.{view, held, IsSameSeat}
+use Rattle.packet_board.specs.Seats.{held, IsSameSeat}
 use Rattle.packet_pool.proofs.moves.take_rounds.Given as goal
 
 abbrev pub invariant-loop-round : goal.invariant-loop-round

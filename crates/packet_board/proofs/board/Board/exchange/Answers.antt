@@ -30,7 +30,7 @@ invariant_of-seat g c = let seat = c.args.seat.now in let m = seat.token.me in l
     let new : c.args.new ≡ unpacked b = sym (ap unpacked c.pack.ensures ∙ unpacked_packed c.args.new c.requires.words.1) in
     record {
       ready = ready_swapped g.M.Choice.chooses g.M.Choice.tells c.args.self.now.table.shared.table_id.slots (c.args.cell + 1) a b c.compare_exchange-found.result m c.compare_exchange-found.new.seat.me seat.ready
-          (subst (λ (z : Word × Word). CanGive (gives_of z.0.buffer z.1.buffer) (lookup m.1)) (λ i. (old i, new i)) c.requires.gives) c.compare_exchange-found.ensures.2;
+          (subst (λ (z : Word × Word). CanGive (gives_of z.0.buffer z.1.buffer) (lookup m.1)) (λ i. (old i, new i)) c.requires.gives) c.compare_exchange-found.ensures.2.0;
     }
 
 pub returns-then-found-expected-clause-done : goal.returns-then-found-expected-clause-done
@@ -39,4 +39,4 @@ returns-then-found-expected-clause-done g c = let seat = c.args.seat.now in let 
     let new : unpacked b ≡ c.args.new = ap unpacked c.pack.ensures ∙ unpacked_packed c.args.new c.requires.words.1 in
     let same : (cell + 1) - 1 ≡ cell = omega arith in let after = c.compare_exchange-found.new.seat.me in
     told_done g.M.Choice.chooses c.args.self.now.layout cell c.args.old c.args.new m after c.requires.seat.1 seat.ready c.requires.gives
-    (subst (λ (z : ℕ × Word × Word). Swapped (λ v x o n found notes. g.M.Choice.chooses v found notes) z.0 z.1 z.2 m after) (λ i. (same i, old i, new i)) (c.compare_exchange-found.ensures.2.0 c.if-found-expected.true))
+    (subst (λ (z : ℕ × Word × Word). Swapped (λ v x o n found notes. g.M.Choice.chooses v found notes) z.0 z.1 z.2 m after) (λ i. (same i, old i, new i)) (c.compare_exchange-found.ensures.2.0.0 c.if-found-expected.true))

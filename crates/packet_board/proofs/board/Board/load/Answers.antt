@@ -18,4 +18,4 @@ load-found-requires g c = let seat = c.args.seat.now in let board = c.args.self.
 
 pub invariant_of-seat : goal.invariant_of-seat
 invariant_of-seat g c = let seat = c.args.seat.now in let m = seat.token.me in
-    record { ready = subst (λ z. Ready z.0 z.1) (sym c.load-found.ensures.2.0) (still_ready m.0 (looked m.0 ((c.args.cell + 1) - 1) (unpacked c.load-found.result)) m.1 seat.ready refl seat.ready.settled refl refl) }
+    record { ready = subst (λ z. Ready z.0 z.1) (sym c.load-found.ensures.2.0.0) (still_ready m.0 (looked m.0 ((c.args.cell + 1) - 1) (unpacked c.load-found.result)) m.1 seat.ready refl seat.ready.settled refl refl) }

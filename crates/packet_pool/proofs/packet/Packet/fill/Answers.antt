@@ -1,4 +1,4 @@
-use Rattle.std.proofs.Common.{arith, sym, ap, ◌∙◌, ◌≡◌, ◌+◌, ◌++◌, ℕ, List, length, take, drop, subst}
+use Rattle.std.proofs.Common.{arith, ap, ◌∙◌, ◌+◌, ◌++◌, ℕ, List, length, take, drop}
 use Rattle.packet_pool.specs.Contents.{payload_of}
 use Rattle.packet_pool.proofs.Bytes.{whole_items, part_read}
 use Rattle.packet_pool.proofs.packet.Packet.fill.Goals as goal

@@ -1,4 +1,4 @@
-use Rattle.std.proofs.Common.{arith, sym, ap, ◌∙◌, ◌≡◌, ◌+◌, ◌≤◌, ℕ, List, length, take, drop, Ok}
+use Rattle.std.proofs.Common.{arith, sym, ap, ◌∙◌, ◌≡◌, ℕ, List, length, take, drop, Ok}
 use Rattle.packet_pool.specs.Contents.{reads_packet}
 use Rattle.packet_pool.proofs.Bytes.{data_in}
 use Rattle.packet_pool.proofs.packet.Packet.read.Goals as goal

@@ -1,4 +1,4 @@
-use Rattle.std.proofs.Common.{arith, sym, ap, ◌∙◌, ◌≡◌, ◌+◌, ◌≤◌, ◌++◌, ℕ, List, length, take, drop, subst, Ok}
+use Rattle.std.proofs.Common.{arith, sym, ap, ◌∙◌, ◌≡◌, ◌+◌, ◌≤◌, ◌++◌, ℕ, List, length, take, drop, Ok}
 use Rattle.rpc_header.specs.Spelling.{spelling}
 use Rattle.udp_frames.specs.Frame.{frame}
 use Rattle.udp_frames.specs.Reading.{reads}

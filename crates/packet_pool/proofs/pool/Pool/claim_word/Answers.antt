@@ -1,4 +1,4 @@
-use Rattle.std.proofs.Common.{refl, sym, ap, ◌∙◌, subst, Some, None, ◌<◌, Option}
+use Rattle.std.proofs.Common.{refl, sym, ap, ◌∙◌, subst, None, ◌<◌, Option}
 use mathlib.Core.Option.{some, some-injective}
 use Rattle.atomic_table.proofs.Lists.{at_map}
 use Rattle.packet_board.specs.declared.buffer.Buffer.{Buffer}
@@ -19,7 +19,7 @@ exchange-requires-clause-law g c = λ ws out hs vs found meets. let v = view c.a
 )
 
 pub exchange-requires-clause-tells : goal.exchange-requires-clause-tells
-exchange-requires-clause-tells g c = λ ws out hs vs word seen at ne alone. let now = c.requires.now alone ws out hs vs seen in ne (some-injective word now.0 (sym at ∙ now.1) ∙ now.2)
+exchange-requires-clause-tells g c = λ ws out hs vs word seen at ne now. let is = now ws out hs vs seen in ne (some-injective word is.0 (sym at ∙ is.1) ∙ is.2)
 
 pub unstow-requires-clause-stowed : goal.unstow-requires-clause-stowed
 unstow-requires-clause-stowed g c = let d = c.in-Ok.ensures.done in found_stowed c.args.chosen.number (held c.args.seat.now) (held c.exchange.new.seat) d.found d.sort.0 d.held_after d.sort.1

@@ -1,4 +1,4 @@
-use Rattle.std.proofs.Common.{◌≡◌, ℕ, ◌<◌, ◌≤◌, IfSome}
+use Rattle.std.proofs.Common.{◌≡◌, ℕ, ◌+◌, ◌<◌, ◌≤◌, IfSome}
 use Rattle.packet_board.specs.Words.{buffers_of}
 use Rattle.packet_board.specs.Seats.{view, held, IsSameSeat}
 use Rattle.packet_pool.specs.Cells.{IsReadyWord}
@@ -15,5 +15,6 @@ invariant-loop-cell g l = record {
   looked : OnlyLooked (view l.fn.seat) (view l.seat);
   held_still : held l.seat ≡ held l.fn.seat;
   seen : (cell : ℕ) → buffers_of (layout_in l.self) ≤ cell → cell < l.cell → IsSeen (view l.fn.seat).steps (view l.seat) cell (IsAfter l.least cell);
+  once : (view l.seat).steps + buffers_of (layout_in l.self) ≡ (view l.fn.seat).steps + l.cell;
   found : IfSome l.least (IsWaiting (layout_in l.self) (view l.fn.seat).steps (view l.seat) l.cell);
 }

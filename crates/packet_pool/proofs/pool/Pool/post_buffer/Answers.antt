@@ -1,9 +1,7 @@
-use Rattle.std.proofs.Common.{refl, ap, ◌∙◌, subst, sym, ◌≡◌, ◌+◌, Some, None}
+use Rattle.std.proofs.Common.{arith, ap, ◌∙◌, subst, sym, ◌+◌, Some, None}
 use mathlib.Core.Option.{some, none}
-use Rattle.packet_board.specs.Hands.{updated}
 use Rattle.packet_board.specs.Words.{buffers_of}
 use Rattle.packet_board.specs.Seats.{view, held, number}
-use Rattle.packet_board.proofs.Held.{updated_here}
 use Rattle.packet_pool.specs.Cells.{ready_count, HasPacket}
 use Rattle.packet_pool.specs.Laws.{MayPost}
 use Rattle.packet_pool.specs.Packets.{layout_in, OnlyLooked, HasNow}
@@ -39,6 +37,7 @@ pub returns-clause-full : goal.returns-clause-full
 returns-clause-full g c = let k = layout_in c.args.self.now in let f = c.post_stowed.ensures.full c.if-post_stowed.false in let all = f.2 in let end = buffers_of k + ready_count k in (
   subst (λ z. OnlyLooked z (view c.unstow.new.seat)) c.stow.ensures.view (subst (λ z. OnlyLooked (view c.stow.new.seat) z) (sym c.unstow.ensures.view) f.0),
   subst (λ z. AllFull k z.steps (view c.unstow.new.seat) end) c.stow.ensures.view (subst (λ z. AllFull k (view c.stow.new.seat).steps z end) (sym c.unstow.ensures.view) all),
+  (let a = ap (λ z. z.steps) c.stow.ensures.view in let b = ap (λ z. z.steps) c.unstow.ensures.view in let s = f.3 in omega (arith, a, b, s)),
 )
 
 pub returns-clause-full_now : goal.returns-clause-full_now

@@ -1,9 +1,7 @@
-use Rattle.std.proofs.Common.{rules, arith, ap, ◌∙◌, subst, sym, ◌≡◌, ◌+◌, Some}
-use mathlib.Core.Option.{some}
+use Rattle.std.proofs.Common.{rules, arith, ap, ◌∙◌, subst, sym, ◌+◌}
 use Rattle.packet_board.specs.Words.{empty, buffers_of}
-use Rattle.packet_board.specs.Hands.{updated}
 use Rattle.packet_board.specs.Views.{exchanged, looked}
-use Rattle.packet_board.specs.Seats.{view, held}
+use Rattle.packet_board.specs.Seats.{view}
 use Rattle.packet_pool.specs.Cells.{ready_word, item, HasPacket}
 use Rattle.packet_pool.specs.Laws.{MayPost}
 use Rattle.packet_pool.specs.Packets.{layout_in, OnlyLooked}
@@ -25,6 +23,7 @@ returns-in-Ok-clause-posted g c = λ _ y is. let inv = c.loop-cell.invariant in 
   last = last;
   looked_on = inv.looked;
   full = inv.full;
+  once = inv.once;
   after = c.in-Ok.ensures.posted y (ap (λ h. h n) inv.held_still ∙ is) ∙ ap (λ z. exchanged last cell empty (ready_word order n) (g.L.PoolLaw.with_posted (item order cell y) z)) inv.looked.notes;
 }
 
@@ -34,4 +33,5 @@ loop-cell-preserved g c = let inv = c.loop-cell.invariant in let v = view c.args
   looked = subst (OnlyLooked v) same (looked_more v last n word inv.looked);
   held_still = full.1 ∙ inv.held_still;
   full = subst (λ z. AllFull k v.steps z (n + 1)) same (all_more (HasPacket k) v.steps last (looked last n word) (buffers_of k) n word (by_look last n word) inv.full inv.looked.steps full.2);
+  once = let o = inv.once in let s = ap (λ z. z.steps) full.0 in omega (arith, o, s);
 }

@@ -1,4 +1,5 @@
-use Rattle.std.proofs.Common.{◌≡◌}
+use Rattle.std.proofs.Common.{◌≡◌, ◌+◌}
+use Rattle.packet_board.specs.Words.{buffers_of}
 use Rattle.packet_board.specs.Seats.{view, held, IsSameSeat}
 use Rattle.packet_pool.specs.Packets.{layout_in, OnlyLooked}
 use Rattle.packet_pool.specs.Waiting.{AllFull}
@@ -10,4 +11,5 @@ invariant-loop-cell g l = record {
   looked : OnlyLooked (view l.fn.seat) (view l.seat);
   held_still : held l.seat ≡ held l.fn.seat;
   full : AllFull (layout_in l.self) (view l.fn.seat).steps (view l.seat) l.cell;
+  once : (view l.seat).steps + buffers_of (layout_in l.self) ≡ (view l.fn.seat).steps + l.cell;
 }

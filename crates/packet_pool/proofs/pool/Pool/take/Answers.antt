@@ -1,4 +1,4 @@
-use Rattle.std.proofs.Common.{subst, sym, ◌<◌, ◌≤◌, arith, ap}
+use Rattle.std.proofs.Common.{subst, sym, ◌<◌, arith, ap}
 use Rattle.packet_board.specs.Hands.{IsUnstowed}
 use Rattle.packet_board.specs.Seats.{view, held, number}
 use Rattle.packet_board.proofs.Held.{out_one}

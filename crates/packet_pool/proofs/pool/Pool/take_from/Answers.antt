@@ -1,4 +1,4 @@
-use Rattle.std.proofs.Common.{ap, ◌∙◌, subst, sym, None, ◌+◌}
+use Rattle.std.proofs.Common.{arith, ap, ◌∙◌, subst, sym, None, ◌+◌}
 use mathlib.Core.Option.{some}
 use Rattle.packet_board.specs.Words.{empty, full}
 use Rattle.packet_board.specs.Hands.{updated}
@@ -15,6 +15,7 @@ returns-in-Some-clause-taken g c = let inv = c.loop-number.invariant in let last
     last = last;
     looked = inv.looked;
     missed = inv.empty;
+    once = inv.once;
     after = c.in-Some.ensures.taken ∙ (λ i. exchanged last n (full n) empty (after_take g.L.PoolLaw.with_taken (inv.looked.layout i) n (inv.looked.notes i)));
   },
   c.in-Some.ensures.held ∙ ap (λ h. updated n (some None) h) inv.held_still,
@@ -26,4 +27,5 @@ loop-number-preserved g c = let inv = c.loop-number.invariant in let v = view c.
   looked = subst (OnlyLooked v) same (looked_more v last n empty inv.looked);
   held_still = c.in-None.ensures.held ∙ inv.held_still;
   empty = subst (λ z. AllEmpty v.steps z c.args.first (n + 1)) same (empty_more v.steps last c.args.first n inv.empty inv.looked.steps);
+  once = let o = inv.once in let s = ap (λ z. z.steps) c.in-None.ensures.taken in omega (arith, o, s);
 }

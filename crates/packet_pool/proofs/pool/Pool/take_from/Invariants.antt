@@ -1,4 +1,4 @@
-use Rattle.std.proofs.Common.{◌≡◌}
+use Rattle.std.proofs.Common.{◌≡◌, ◌+◌}
 use Rattle.packet_board.specs.Seats.{view, held, IsSameSeat}
 use Rattle.packet_pool.specs.Packets.{OnlyLooked, AllEmpty}
 use Rattle.packet_pool.proofs.pool.Pool.take_from.Given as goal
@@ -9,4 +9,5 @@ invariant-loop-number g l = record {
   looked : OnlyLooked (view l.fn.seat) (view l.seat);
   held_still : held l.seat ≡ held l.fn.seat;
   empty : AllEmpty (view l.fn.seat).steps (view l.seat) l.first l.number;
+  once : (view l.seat).steps + l.first ≡ (view l.fn.seat).steps + l.number;
 }

@@ -1,5 +1,4 @@
-use Rattle.std.proofs.Common.{arith, refl, sym, ap, ◌∙◌, subst, ⊎_elim, Some, None, ◌<◌, ◌≡◌, Option}
-use mathlib.Core.Option.{some}
+use Rattle.std.proofs.Common.{arith, refl, sym, ap, ◌∙◌, subst, ⊎_elim, Some, ◌<◌, ◌≡◌, Option}
 use Rattle.packet_board.specs.declared.buffer.Buffer.{Buffer}
 use Rattle.packet_board.specs.Words.{empty}
 use Rattle.packet_board.specs.Hands.{flat}

@@ -1,4 +1,4 @@
-use Rattle.std.proofs.Common.{List, ℕ, ◌++◌, ◌≤◌, ap, ◌∙◌, lit≤}
+use Rattle.std.proofs.Common.{List, ℕ, ◌++◌, ap, ◌∙◌, lit≤}
 use Rattle.std.proofs.lemmas.Result.{on_ok_weaker}
 use Rattle.replay_model.specs.Record.{ListsRuns, Ends, counts_of}
 use Rattle.replay_model.specs.Lines.{end_line}
@@ -13,7 +13,7 @@ returns-in-Call-clause-step c w stands =
 
 pub returns-in-Tick-clause-step : goal.returns-in-Tick-clause-step
 returns-in-Tick-clause-step c w stands =
-    rw c.in-Tick.is (applied c.ticks.result c.args.out.now.items c.ticks.new.out.items c.ticks.new.self w (event.Tick c.in-Tick.machine c.in-Tick.process c.in-Tick.count) (c.ticks.ensures.played w stands))
+    rw c.in-Tick.is (applied c.ticks.result c.args.out.now.items c.ticks.new.out.items c.ticks.new.self w (event.Tick c.in-Tick.machine c.in-Tick.process c.in-Tick.times) (c.ticks.ensures.played w stands))
 
 pub returns-in-Deliver-clause-step : goal.returns-in-Deliver-clause-step
 returns-in-Deliver-clause-step c w stands =
@@ -60,3 +60,45 @@ returns-in-Damage-clause-few c = rose_more c.damage.result 1 c.args.self.now c.d
 
 pub returns-in-Work-clause-few : goal.returns-in-Work-clause-few
 returns-in-Work-clause-few c = rose_more c.work.result 1 c.args.self.now c.work.new.self (lit≤ tt) c.work.ensures.few
+
+pub returns-in-Second-clause-step : goal.returns-in-Second-clause-step
+returns-in-Second-clause-step c w stands =
+    rw c.in-Second.is (applied c.pass.result c.args.out.now.items c.pass.new.out.items c.pass.new.self w (event.Second c.in-Second.second) (c.pass.ensures.played w stands))
+
+pub returns-in-Second-clause-few : goal.returns-in-Second-clause-few
+returns-in-Second-clause-few c = rose_more c.pass.result 1 c.args.self.now c.pass.new.self (lit≤ tt) c.pass.ensures.few
+
+pub returns-in-Bind-clause-step : goal.returns-in-Bind-clause-step
+returns-in-Bind-clause-step c w stands =
+    rw c.in-Bind.is (applied c.bind.result c.args.out.now.items c.bind.new.out.items c.bind.new.self w (event.Bind c.in-Bind.machine c.in-Bind.process c.in-Bind.name) (c.bind.ensures.played w stands))
+
+pub returns-in-Bind-clause-few : goal.returns-in-Bind-clause-few
+returns-in-Bind-clause-few c = rose_more c.bind.result 1 c.args.self.now c.bind.new.self (lit≤ tt) c.bind.ensures.few
+
+pub returns-in-Export-clause-step : goal.returns-in-Export-clause-step
+returns-in-Export-clause-step c w stands =
+    rw c.in-Export.is (applied c.export.result c.args.out.now.items c.export.new.out.items c.export.new.self w (event.Export c.in-Export.name) (c.export.ensures.played w stands))
+
+pub returns-in-Export-clause-few : goal.returns-in-Export-clause-few
+returns-in-Export-clause-few c = rose_more c.export.result 1 c.args.self.now c.export.new.self (lit≤ tt) c.export.ensures.few
+
+pub returns-in-Withdraw-clause-step : goal.returns-in-Withdraw-clause-step
+returns-in-Withdraw-clause-step c w stands =
+    rw c.in-Withdraw.is (applied c.withdraw.result c.args.out.now.items c.withdraw.new.out.items c.withdraw.new.self w (event.Withdraw c.in-Withdraw.name) (c.withdraw.ensures.played w stands))
+
+pub returns-in-Withdraw-clause-few : goal.returns-in-Withdraw-clause-few
+returns-in-Withdraw-clause-few c = rose_more c.withdraw.result 1 c.args.self.now c.withdraw.new.self (lit≤ tt) c.withdraw.ensures.few
+
+pub returns-in-Restart-clause-step : goal.returns-in-Restart-clause-step
+returns-in-Restart-clause-step c w stands =
+    rw c.in-Restart.is (applied c.restart.result c.args.out.now.items c.restart.new.out.items c.restart.new.self w (event.Restart c.in-Restart.machine) (c.restart.ensures.played w stands))
+
+pub returns-in-Restart-clause-few : goal.returns-in-Restart-clause-few
+returns-in-Restart-clause-few c = rose_more c.restart.result 1 c.args.self.now c.restart.new.self (lit≤ tt) c.restart.ensures.few
+
+pub returns-in-Skip-clause-step : goal.returns-in-Skip-clause-step
+returns-in-Skip-clause-step c w stands =
+    rw c.in-Skip.is (applied c.skip.result c.args.out.now.items c.skip.new.out.items c.skip.new.self w (event.Skip c.in-Skip.machine c.in-Skip.process c.in-Skip.by) (c.skip.ensures.played w stands))
+
+pub returns-in-Skip-clause-few : goal.returns-in-Skip-clause-few
+returns-in-Skip-clause-few c = rose_more c.skip.result 1 c.args.self.now c.skip.new.self (lit≤ tt) c.skip.ensures.few

@@ -1,4 +1,4 @@
-use Rattle.std.proofs.Common.{◌≡◌, ℕ, ◌+◌, ◌<◌, Bool, true, false, ◌&&◌, ap, sym, subst, ◌∙◌, arith}
+use Rattle.std.proofs.Common.{◌≡◌, ℕ, ◌+◌, ◌<◌, Bool, ◌&&◌, ap, sym, subst, ◌∙◌, arith}
 use Rattle.replay_world.specs.Stored.{RoseByAtMost}
 use Rattle.replay_world.proofs.Ticking.{Passed, none_passed, one_passed, all_passed_quietly, all_passed_loudly}
 use Rattle.replay_world.proofs.world.World.ticks.Goals as goal

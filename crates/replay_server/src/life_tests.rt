@@ -1,0 +1,320 @@
+//! The server's exports, its restarts, and calls with long arguments and results.
+
+use crate::ServerMachine;
+use crate::trial::{
+    ACK, ACKED, Added, CALL, CLIENT, CallerPacket, EARLIER, FIRST, LATER, Line, PROBE, RESULT,
+    SECOND, ServerPacket, booted, first_other, header_of, name, take,
+};
+use Added::{Nothing, Packet, Rejection, Run};
+use Line::{Idle, One, Restart, Take, Withdraw};
+use binder::ExportFault;
+use call_rules::Did;
+use call_rules::Unfit::Same;
+use replay_packets::counted_text;
+use rpc_header::{Export, Kind};
+use std::alloc::Global;
+use std::test::Fail;
+
+/// The test service is exported by a name, in a second.
+fn export(
+    alloc: Global,
+    server: &mut ServerMachine,
+    text: &[u8],
+    second: u32,
+) -> Result<Result<Export, ExportFault>, Fail> {
+    Ok(server.export(alloc, name(text)?, second)?)
+}
+
+#[test]
+fn a_name_is_exported_once_and_not_too_fast(rt: HostRuntime) -> Result<(), Fail> {
+    let alloc = rt.alloc();
+    let mut server = booted(alloc)?;
+    let too_fast = ExportFault::TooFast { next: 2, now: 1 };
+    let second = Export {
+        identifier: 2,
+        index: 1,
+    };
+    assert_eq!(rt;
+        export(alloc, &mut server, b"main", 1)?,
+        Err(ExportFault::Exists)
+    );
+    assert_eq!(rt; export(alloc, &mut server, b"aux", 1)?, Err(too_fast));
+    assert_eq!(rt; export(alloc, &mut server, b"aux", 2)?, Ok(second));
+    Ok(())
+}
+
+/// How many names of one letter are exported until one is refused, of at most 20.
+fn letters_exported(alloc: Global, server: &mut ServerMachine) -> Result<u8, Fail> {
+    for i in 0..20 {
+        if export(alloc, server, &[b'a' + i], 16)?.is_err() {
+            return Ok(i);
+        }
+    }
+    Ok(20)
+}
+
+#[test]
+fn at_most_16_names_are_exported(rt: HostRuntime) -> Result<(), Fail> {
+    let alloc = rt.alloc();
+    let mut server = booted(alloc)?;
+    assert_eq!(rt; letters_exported(alloc, &mut server)?, 15);
+    assert_eq!(rt;
+        export(alloc, &mut server, b"z", 16)?,
+        Err(ExportFault::Full)
+    );
+    assert_eq!(rt; server.withdraw(name(b"main")?), Some(0));
+    let in_its_row = Export {
+        identifier: 17,
+        index: 0,
+    };
+    assert_eq!(rt; export(alloc, &mut server, b"z", 17)?, Ok(in_its_row));
+    Ok(())
+}
+
+#[test]
+fn a_name_that_is_not_exported_is_not_withdrawn(rt: HostRuntime) -> Result<(), Fail> {
+    let mut server = booted(rt.alloc())?;
+    assert_eq!(rt; server.withdraw(name(b"aux")?), None);
+    assert_eq!(rt; server.withdraw(name(b"main")?), Some(0));
+    assert_eq!(rt; server.withdraw(name(b"main")?), None);
+    Ok(())
+}
+
+/// The binding is wrong.
+const REJECT: ServerPacket = ServerPacket {
+    kind: Kind::Reject,
+    reason: 1,
+    ..ACKED
+};
+
+/// The test service, as it is exported next, or at a boot in second 2.
+const SECOND_EXPORT: Export = Export {
+    identifier: 2,
+    index: 0,
+};
+
+static WITHDRAWN: [Line; 15] = [
+    Take(CALL),
+    One(Did::Claims, Nothing),
+    One(Did::Admits, Nothing),
+    One(Did::Runs, Run(0, false, 0)),
+    One(Did::Replies, Packet(RESULT)),
+    Withdraw,
+    Take(PROBE),
+    One(Did::Rejects(1), Rejection(REJECT)),
+    Take(LATER),
+    One(Did::Rejects(1), Rejection(REJECT)),
+    // The name is exported anew, in the same row.
+    Line::Export(2),
+    Take(LATER),
+    One(Did::Rejects(1), Rejection(REJECT)),
+    Take(CallerPacket {
+        export: SECOND_EXPORT,
+        ..LATER
+    }),
+    One(Did::Claims, Nothing),
+];
+
+#[test]
+fn a_withdrawn_export_refuses_its_calls(rt: HostRuntime) -> Result<(), Fail> {
+    let mut server = booted(rt.alloc())?;
+    assert_eq!(rt; first_other(rt.alloc(), &mut server, &WITHDRAWN)?, None);
+    Ok(())
+}
+
+#[test]
+fn a_restart_comes_at_a_later_second_than_any_read(rt: HostRuntime) -> Result<(), Fail> {
+    let alloc = rt.alloc();
+    let mut server = booted(alloc)?;
+    assert_eq!(rt; server.restart(alloc, 1)?, false);
+    assert_eq!(rt;
+        export(alloc, &mut server, b"main", 7)?,
+        Err(ExportFault::Exists)
+    );
+    assert_eq!(rt; server.restart(alloc, 7)?, false);
+    assert_eq!(rt; server.restart(alloc, 8)?, true);
+    let too_fast = ExportFault::TooFast { next: 9, now: 8 };
+    assert_eq!(rt; export(alloc, &mut server, b"aux", 8)?, Err(too_fast));
+    Ok(())
+}
+
+/// A packet is ready, and the server restarts. Then nothing is ready, worker 1 has no packet, and an earlier call
+/// than that of before is admitted.
+static RESTARTED: [Line; 9] = [
+    Take(CALL),
+    Restart(2),
+    Idle,
+    Take(CALL),
+    One(Did::Rejects(1), Rejection(REJECT)),
+    Take(CallerPacket {
+        export: SECOND_EXPORT,
+        ..EARLIER
+    }),
+    One(Did::Claims, Nothing),
+    One(Did::Admits, Nothing),
+    One(Did::Runs, Run(0, false, 0)),
+];
+
+/// Whether the server is as booted when it restarts after these lines.
+fn forgets(alloc: Global, lines: &[Line]) -> Result<bool, Fail> {
+    let mut server = booted(alloc)?;
+    let before = first_other(alloc, &mut server, lines)?;
+    let after = first_other(alloc, &mut server, &RESTARTED)?;
+    Ok(before.is_none() && after.is_none())
+}
+
+/// After how many lines a restart leaves something of them.
+fn first_kept(alloc: Global, lines: &[Line]) -> Result<Option<usize>, Fail> {
+    for count in 0..=lines.len() {
+        if !forgets(alloc, &lines[..count])? {
+            return Ok(Some(count));
+        }
+    }
+    Ok(None)
+}
+
+static WHOLE: [Line; 8] = [
+    Take(CALL),
+    One(Did::Claims, Nothing),
+    One(Did::Admits, Nothing),
+    One(Did::Runs, Run(0, false, 0)),
+    One(Did::Replies, Packet(RESULT)),
+    Take(PROBE),
+    One(Did::Claims, Nothing),
+    One(Did::Fetches, Nothing),
+];
+
+static IN_PIECES: [Line; 6] = [
+    Take(FIRST),
+    One(Did::Claims, Nothing),
+    One(Did::Begins, Packet(ACKED)),
+    Take(SECOND),
+    One(Did::Claims, Nothing),
+    One(Did::Takes, Nothing),
+];
+
+#[test]
+fn a_restart_forgets_each_state_of_workers_and_entries(rt: HostRuntime) -> Result<(), Fail> {
+    assert_eq!(rt; first_kept(rt.alloc(), &WHOLE)?, None);
+    assert_eq!(rt; first_kept(rt.alloc(), &IN_PIECES)?, None);
+    Ok(())
+}
+
+/// Whether a packet with this data comes, and then these lines come about.
+fn comes(
+    alloc: Global,
+    server: &mut ServerMachine,
+    packet: CallerPacket,
+    data: &[u8],
+    lines: &[Line],
+) -> Result<bool, Fail> {
+    let is_taken = take(alloc, server, CLIENT, header_of(packet)?, data)?;
+    let other = first_other(alloc, server, lines)?;
+    Ok(is_taken && other.is_none())
+}
+
+/// The pieces of a text of 1440 bytes behind its count.
+const TEXT: CallerPacket = CallerPacket {
+    procedure: 3,
+    ..FIRST
+};
+
+const TEXT_END: CallerPacket = CallerPacket {
+    fragment: 1,
+    procedure: 3,
+    ..CALL
+};
+
+static BEGINS: [Line; 2] = [One(Did::Claims, Nothing), One(Did::Begins, Packet(ACKED))];
+
+static COMES_AGAIN: [Line; 3] = [
+    One(Did::Claims, Nothing),
+    One(Did::Takes, Nothing),
+    One(Did::Rests, Packet(ACKED)),
+];
+
+static ENDS: [Line; 5] = [
+    One(Did::Claims, Nothing),
+    One(Did::Takes, Nothing),
+    One(Did::Admits, Nothing),
+    One(Did::Runs, Run(1444, false, 0)),
+    One(Did::Replies, Packet(RESULT)),
+];
+
+#[test]
+fn a_long_argument_comes_in_two_pieces(rt: HostRuntime) -> Result<(), Fail> {
+    let alloc = rt.alloc();
+    let mut server = booted(alloc)?;
+    let text = counted_text(alloc, 1440)?;
+    let (first, last) = text.as_slice().split_at(1440);
+    assert!(rt; comes(alloc, &mut server, TEXT, first, &BEGINS)?);
+    assert!(rt; comes(alloc, &mut server, TEXT, first, &COMES_AGAIN)?);
+    assert!(rt; comes(alloc, &mut server, TEXT_END, last, &ENDS)?);
+    Ok(())
+}
+
+/// Asks for a text of 2880 bytes.
+const LONG_CALL: CallerPacket = CallerPacket {
+    procedure: 4,
+    ..CALL
+};
+
+const FETCH_SECOND: CallerPacket = CallerPacket {
+    procedure: 4,
+    ..ACK
+};
+
+const FETCH_THIRD: CallerPacket = CallerPacket {
+    fragment: 1,
+    ..FETCH_SECOND
+};
+
+const FETCH_BEHIND: CallerPacket = CallerPacket {
+    fragment: 2,
+    ..FETCH_SECOND
+};
+
+const FIRST_PIECE: ServerPacket = ServerPacket {
+    please_ack: true,
+    last: false,
+    len: 1440,
+    ..RESULT
+};
+
+const SECOND_PIECE: ServerPacket = ServerPacket {
+    fragment: 1,
+    ..FIRST_PIECE
+};
+
+const THIRD_PIECE: ServerPacket = ServerPacket {
+    fragment: 2,
+    len: 4,
+    ..RESULT
+};
+
+static FETCHED: [Line; 16] = [
+    One(Did::Claims, Nothing),
+    One(Did::Admits, Nothing),
+    One(Did::Runs, Run(4, false, 2884)),
+    One(Did::Replies, Packet(FIRST_PIECE)),
+    Take(FETCH_SECOND),
+    One(Did::Claims, Nothing),
+    One(Did::Fetches, Nothing),
+    One(Did::Resends, Packet(SECOND_PIECE)),
+    Take(FETCH_THIRD),
+    One(Did::Claims, Nothing),
+    One(Did::Fetches, Nothing),
+    One(Did::Resends, Packet(THIRD_PIECE)),
+    Take(FETCH_BEHIND),
+    One(Did::Claims, Nothing),
+    One(Did::Fetches, Nothing),
+    One(Did::Drops(Same), Nothing),
+];
+
+#[test]
+fn a_long_result_is_fetched_piece_by_piece(rt: HostRuntime) -> Result<(), Fail> {
+    let alloc = rt.alloc();
+    let mut server = booted(alloc)?;
+    assert!(rt; comes(alloc, &mut server, LONG_CALL, &[0, 0, 11, 64], &FETCHED)?);
+    Ok(())
+}

@@ -1,0 +1,102 @@
+use Rattle.std.proofs.Common.{◌≡◌, ℕ, ◌-◌, ◌≤◌, List, ◌++◌, length, set, ap, sym, subst, refl, ◌∙◌, arith}
+use Rattle.std.proofs.lemmas.Result.{on_ok_weaker}
+use Rattle.call_rules.specs.Packet.{Call, call_of}
+use Rattle.replay_model.specs.Record.{Records, Impossible, TooFast, Binds, recorded}
+use Rattle.replay_model.specs.Lines.{lines_of_act}
+use Rattle.replay_model.specs.World.{World, Client, numbered}
+use Rattle.replay_model.specs.Step.{Outcome, bind_by, impossible, behind, with_client}
+use Rattle.replay_client.specs.declared.machine.Called.{Called}
+use Rattle.replay_client.specs.declared.machine.Called.TheVariants as called
+use Rattle.replay_client.specs.Client.{BindsAs, KeepsImpossible, BeginsAs}
+use Rattle.replay_world.specs.Stored.{Stored}
+use Rattle.replay_world.specs.Stands.{Stands, IsClient}
+use Rattle.replay_world.specs.contracts.world.World.{the_view}
+use Rattle.replay_world.proofs.Machines.{bound_in}
+use Rattle.replay_world.proofs.Numbered.{numbered-none}
+use Rattle.replay_world.proofs.WorldSteps.{bind_event-none, bind_event-some}
+use Rattle.replay_world.proofs.Standing.{plays_one, plays_behind, plays_as, stands-clients, stands-beside, client_of, clients_with, clients_same}
+use Rattle.replay_world.proofs.Zips.{zip-length}
+use Rattle.replay_world.proofs.world.World.bind.Goals as goal
+
+pub returns-then-place-len-clause-played : goal.returns-then-place-len-clause-played
+returns-then-place-len-clause-played c w h =
+    let s : Stored = the_view c.self.inside in
+    let before : List ℕ = c.args.out.now.items in
+    let after : List ℕ = c.put_impossible.new.out.items in
+    let m : ℕ = c.args.machine in
+    let kept : Stands s w = subst (λ (x : Stored). Stands x w) (sym c.self.view_is) h in
+    let same = zip-length IsClient s.clients w.clients kept.clients in
+    let past : length w.clients ≤ m - 2 = omega (arith, c.self.inside.clients.ok.0) in
+    rw (← c.self.view_is)
+    (on_ok_weaker c.put_impossible.result (λ e. plays_as before after s w.records _ (impossible w)
+    (bind_event-none w m c.args.process _ c.args.name.now (numbered-none 2 w.clients m (omega arith) past))
+    (plays_one before after s w w.records Impossible e kept)) c.put_impossible.ensures)
+
+pub returns-in-Impossible-clause-played : goal.returns-in-Impossible-clause-played
+returns-in-Impossible-clause-played c w h =
+    let s : Stored = the_view c.self.inside in
+    let before : List ℕ = c.args.out.now.items in
+    let after : List ℕ = c.put_impossible-in-Impossible.new.out.items in
+    let m : ℕ = c.args.machine in
+    let place : ℕ = c.from-place.result in
+    let name : List ℕ = c.args.name.now in
+    let client : Client = c.index_mut-client.result.now in
+    let now : Client = c.bind.new.self in
+    let kept : Stands s w = subst (λ (x : Stored). Stands x w) (sym c.self.view_is) h in
+    let found = client_of s.clients w.clients m place client kept.clients (omega arith) c.from-place.ensures (omega (arith, c.self.inside.clients.ok.0)) c.index_mut-client.ensures.value in
+    let did' = bound_in w s.second m c.args.process found.client client now name c.in_ok-bind.field-0 kept.second found.is_client c.in_ok-bind.ensures.outcome in
+    let by : Outcome = bind_by w m c.args.process found.client (numbered 1 found.client.lines c.args.process) name in
+    let did : by ≡ impossible w = subst (λ (d : Called). BindsAs w m now d by) c.in-Impossible.is did' in
+    let same : now ≡ found.client = subst (λ (d : Called). KeepsImpossible d client now) c.in-Impossible.is c.in_ok-bind.ensures.impossible ∙ found.is_client in
+    let stands = stands-clients s w (set s.clients place now) w.clients kept (clients_same s.clients w.clients place now found.client now kept.clients refl same found.at_place) in
+    on_ok_weaker c.put_impossible-in-Impossible.result (λ e. plays_as before after (record s { clients = set s.clients place now }) w.records _ (impossible w)
+    (bind_event-some w m c.args.process _ found.client name found.there ∙ did)
+    (plays_one before after (record s { clients = set s.clients place now }) w w.records Impossible e stands)) c.put_impossible-in-Impossible.ensures
+
+pub returns-in-TooFast-clause-played : goal.returns-in-TooFast-clause-played
+returns-in-TooFast-clause-played c w h =
+    let s : Stored = the_view c.self.inside in
+    let before : List ℕ = c.args.out.now.items in
+    let after : List ℕ = c.put_too_fast.new.out.items in
+    let m : ℕ = c.args.machine in
+    let n : ℕ = c.in-TooFast.number in
+    let place : ℕ = c.from-place.result in
+    let name : List ℕ = c.args.name.now in
+    let client : Client = c.index_mut-client.result.now in
+    let now : Client = c.bind.new.self in
+    let kept : Stands s w = subst (λ (x : Stored). Stands x w) (sym c.self.view_is) h in
+    let found = client_of s.clients w.clients m place client kept.clients (omega arith) c.from-place.ensures (omega (arith, c.self.inside.clients.ok.0)) c.index_mut-client.ensures.value in
+    let did' = bound_in w s.second m c.args.process found.client client now name c.in_ok-bind.field-0 kept.second found.is_client c.in_ok-bind.ensures.outcome in
+    let by : Outcome = bind_by w m c.args.process found.client (numbered 1 found.client.lines c.args.process) name in
+    let did : BindsAs w m now (called.TooFast n) by = subst (λ (d : Called). BindsAs w m now d by) c.in-TooFast.is did' in
+    let stands = stands-clients s w (set s.clients place now) (set w.clients (m - 2) now) kept (clients_with s.clients w.clients m place now now kept.clients refl c.from-place.ensures) in
+    on_ok_weaker c.put_too_fast.result (λ e. plays_as before after (record s { clients = set s.clients place now }) w.records _ _
+    (bind_event-some w m c.args.process _ found.client name found.there ∙ did.1)
+    (plays_one before after (record s { clients = set s.clients place now }) (with_client w m now) w.records (TooFast did.0 n w.second)
+    (e ∙ ap (λ (x : ℕ). before ++ lines_of_act (TooFast did.0 n x)) kept.second) stands)) (c.put_too_fast.ensures did.0)
+
+pub returns-in_ok-put_bind-in-Starts-clause-played : goal.returns-in_ok-put_bind-in-Starts-clause-played
+returns-in_ok-put_bind-in-Starts-clause-played c w h =
+    let s : Stored = the_view c.self.inside in
+    let before : List ℕ = c.args.out.now.items in
+    let middle : List ℕ = c.put_bind.new.out.items in
+    let after : List ℕ = c.tell.new.out.items in
+    let m : ℕ = c.args.machine in
+    let place : ℕ = c.from-place.result in
+    let name : List ℕ = c.args.name.now in
+    let client : Client = c.index_mut-client.result.now in
+    let now : Client = c.bind.new.self in
+    let kept : Stands s w = subst (λ (x : Stored). Stands x w) (sym c.self.view_is) h in
+    let found = client_of s.clients w.clients m place client kept.clients (omega arith) c.from-place.ensures (omega (arith, c.self.inside.clients.ok.0)) c.index_mut-client.ensures.value in
+    let did' = bound_in w s.second m c.args.process found.client client now name c.in_ok-bind.field-0 kept.second found.is_client c.in_ok-bind.ensures.outcome in
+    let by : Outcome = bind_by w m c.args.process found.client (numbered 1 found.client.lines c.args.process) name in
+    let w' : World = with_client w m now in
+    let did : BeginsAs w' c.in-Starts.told by = subst (λ (d : Called). BindsAs w m now d by) c.in-Starts.is did' in
+    let s' : Stored = record s { clients = set s.clients place now } in
+    let stands : Stands s' w' = stands-clients s w (set s.clients place now) (set w.clients (m - 2) now) kept (clients_with s.clients w.clients m place now now kept.clients refl c.from-place.ensures) in
+    let begun : Call = call_of c.in-Starts.told.call in
+    let r : Records = recorded w.records (Binds begun) in
+    on_ok_weaker c.tell.result (λ p. plays_as before after c.tell.new.self w.records _ (behind (Binds begun) did.first)
+    (bind_event-some w m c.args.process _ found.client name found.there ∙ did.outcome)
+    (plays_behind before middle after c.tell.new.self w.records (Binds begun) did.first c.in_ok-put_bind-in-Starts.ensures p))
+    (c.tell.ensures.played w' r did.first did.tells (stands-beside s' w' r refl refl stands))

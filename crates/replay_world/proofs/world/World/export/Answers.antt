@@ -1,0 +1,40 @@
+use Rattle.std.proofs.Common.{ℕ, List, Result, sym, subst, refl}
+use Rattle.std.proofs.lemmas.Result.{on_ok_weaker}
+use Rattle.rpc_header.specs.declared.Export.{Export}
+use Rattle.binder.specs.declared.row.ExportFault.{ExportFault}
+use Rattle.replay_model.specs.Record.{Exports, NoExport}
+use Rattle.replay_model.specs.World.{Server}
+use Rattle.replay_model.specs.Step.{Outcome, export_event}
+use Rattle.replay_server.specs.Lives as server
+use Rattle.replay_world.specs.Stored.{Stored}
+use Rattle.replay_world.specs.Stands.{Stands}
+use Rattle.replay_world.specs.contracts.world.World.{the_view}
+use Rattle.replay_world.proofs.Machines.{exported_in}
+use Rattle.replay_world.proofs.Standing.{plays_one, plays_as, stands-server}
+use Rattle.replay_world.proofs.world.World.export.Goals as goal
+
+pub returns-clause-played : goal.returns-clause-played
+returns-clause-played c w h =
+    let s : Stored = the_view c.self.inside in
+    let before : List ℕ = c.args.out.now.items in
+    let kept : Stands s w = subst (λ (x : Stored). Stands x w) (sym c.self.view_is) h in
+    let after : List ℕ = c.put_export.new.out.items in
+    let now : Server = c.export.new.self in
+    let o : Outcome = export_event w c.args.name.now in
+    let did = subst (λ (d : Result Export ExportFault). server.ExportsAs w now d o) c.in-Ok.is
+    (exported_in w s.second s.server now c.args.name.now c.in_ok-export.field-0 kept.second kept.server c.in_ok-export.ensures) in
+    on_ok_weaker c.put_export.result (λ e. plays_as before after (record s { server = now }) w.records o _ did
+    (plays_one before after (record s { server = now }) (record w { server = now }) w.records (Exports c.in-Ok.export) e (stands-server s w now now kept refl))) c.put_export.ensures
+
+pub returns-in-Err-clause-played : goal.returns-in-Err-clause-played
+returns-in-Err-clause-played c w h =
+    let s : Stored = the_view c.self.inside in
+    let before : List ℕ = c.args.out.now.items in
+    let kept : Stands s w = subst (λ (x : Stored). Stands x w) (sym c.self.view_is) h in
+    let after : List ℕ = c.put_no_export.new.out.items in
+    let now : Server = c.export.new.self in
+    let o : Outcome = export_event w c.args.name.now in
+    let did = subst (λ (d : Result Export ExportFault). server.ExportsAs w now d o) c.in-Err.is
+    (exported_in w s.second s.server now c.args.name.now c.in_ok-export.field-0 kept.second kept.server c.in_ok-export.ensures) in
+    on_ok_weaker c.put_no_export.result (λ e. plays_as before after (record s { server = now }) w.records o _ did
+    (plays_one before after (record s { server = now }) (record w { server = now }) w.records (NoExport c.in-Err.why) e (stands-server s w now now kept refl))) c.put_no_export.ensures

@@ -1,0 +1,70 @@
+use Rattle.std.proofs.Common.{◌≡◌, ℕ, ◌-◌, ◌≤◌, List, Option, length, set, sym, subst, refl, ◌∙◌, arith}
+use Rattle.std.proofs.lemmas.Result.{on_ok_weaker}
+use Rattle.replay_model.specs.Record.{Impossible, Skips}
+use Rattle.replay_model.specs.World.{Client, numbered}
+use Rattle.replay_model.specs.Step.{Outcome, impossible, with_client, skip_by}
+use Rattle.replay_client.specs.declared.machine.Skipped.{Skipped}
+use Rattle.replay_client.specs.Client as client
+use Rattle.replay_world.specs.Stored.{Stored}
+use Rattle.replay_world.specs.Stands.{Stands, IsClient}
+use Rattle.replay_world.specs.contracts.world.World.{the_view}
+use Rattle.replay_world.proofs.Machines.{skipped_in}
+use Rattle.replay_world.proofs.Numbered.{numbered-none}
+use Rattle.replay_world.proofs.WorldSteps.{skip_event-none, skip_event-some}
+use Rattle.replay_world.proofs.Standing.{plays_one, plays_as, stands-clients, client_of, clients_with, clients_same}
+use Rattle.replay_world.proofs.Zips.{zip-length}
+use Rattle.replay_world.proofs.world.World.skip.Goals as goal
+
+pub returns-then-place-len-clause-played : goal.returns-then-place-len-clause-played
+returns-then-place-len-clause-played c w h =
+    let s : Stored = the_view c.self.inside in
+    let before : List ℕ = c.args.out.now.items in
+    let kept : Stands s w = subst (λ (x : Stored). Stands x w) (sym c.self.view_is) h in
+    let after : List ℕ = c.put_impossible.new.out.items in
+    let m : ℕ = c.args.machine in
+    let same = zip-length IsClient s.clients w.clients kept.clients in
+    let past : length w.clients ≤ m - 2 = omega (arith, c.self.inside.clients.ok.0) in
+    rw (← c.self.view_is)
+    (on_ok_weaker c.put_impossible.result (λ e. plays_as before after s w.records _ (impossible w)
+    (skip_event-none w m c.args.process _ c.args.by (numbered-none 2 w.clients m (omega arith) past))
+    (plays_one before after s w w.records Impossible e kept)) c.put_impossible.ensures)
+
+pub returns-in_default-clause-played : goal.returns-in_default-clause-played
+returns-in_default-clause-played c w h =
+    let s : Stored = the_view c.self.inside in
+    let before : List ℕ = c.args.out.now.items in
+    let kept : Stands s w = subst (λ (x : Stored). Stands x w) (sym c.self.view_is) h in
+    let after : List ℕ = c.put_impossible-in_default.new.out.items in
+    let m : ℕ = c.args.machine in
+    let place : ℕ = c.from-place.result in
+    let old : Client = c.index_mut.result.now in
+    let now : Client = c.skip.new.self in
+    let found = client_of s.clients w.clients m place old kept.clients (omega arith) c.from-place.ensures (omega (arith, c.self.inside.clients.ok.0)) c.index_mut.ensures.value in
+    let by : Outcome = skip_by w m c.args.process found.client (numbered 1 found.client.lines c.args.process) c.args.by in
+    let did : by ≡ impossible w = subst (λ (d : Option Skipped). client.SkipsAs w m now d by) c.in_default.is
+    (skipped_in w m c.args.process c.args.by found.client old now c.skip.result found.is_client c.skip.ensures.outcome) in
+    let same : now ≡ found.client = c.skip.ensures.impossible c.in_default.is ∙ found.is_client in
+    let stands = stands-clients s w (set s.clients place now) w.clients kept (clients_same s.clients w.clients place now found.client now kept.clients refl same found.at_place) in
+    on_ok_weaker c.put_impossible-in_default.result (λ e. plays_as before after (record s { clients = set s.clients place now }) w.records _ (impossible w)
+    (skip_event-some w m c.args.process _ found.client c.args.by found.there ∙ did)
+    (plays_one before after (record s { clients = set s.clients place now }) w w.records Impossible e stands)) c.put_impossible-in_default.ensures
+
+pub returns-clause-played : goal.returns-clause-played
+returns-clause-played c w h =
+    let s : Stored = the_view c.self.inside in
+    let before : List ℕ = c.args.out.now.items in
+    let kept : Stands s w = subst (λ (x : Stored). Stands x w) (sym c.self.view_is) h in
+    let after : List ℕ = c.put_skipped.new.out.items in
+    let m : ℕ = c.args.machine in
+    let place : ℕ = c.from-place.result in
+    let old : Client = c.index_mut.result.now in
+    let now : Client = c.skip.new.self in
+    let x : Skipped = c.in-Some.skipped in
+    let found = client_of s.clients w.clients m place old kept.clients (omega arith) c.from-place.ensures (omega (arith, c.self.inside.clients.ok.0)) c.index_mut.ensures.value in
+    let by : Outcome = skip_by w m c.args.process found.client (numbered 1 found.client.lines c.args.process) c.args.by in
+    let did = subst (λ (d : Option Skipped). client.SkipsAs w m now d by) c.in-Some.is
+    (skipped_in w m c.args.process c.args.by found.client old now c.skip.result found.is_client c.skip.ensures.outcome) in
+    let stands = stands-clients s w (set s.clients place now) (set w.clients (m - 2) now) kept (clients_with s.clients w.clients m place now now kept.clients refl c.from-place.ensures) in
+    on_ok_weaker c.put_skipped.result (λ e. plays_as before after (record s { clients = set s.clients place now }) w.records _ _
+    (skip_event-some w m c.args.process _ found.client c.args.by found.there ∙ did)
+    (plays_one before after (record s { clients = set s.clients place now }) (with_client w m now) w.records (Skips x.activity x.next) e stands)) c.put_skipped.ensures

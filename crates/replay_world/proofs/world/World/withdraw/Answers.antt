@@ -1,0 +1,37 @@
+use Rattle.std.proofs.Common.{ℕ, List, Option, sym, subst, refl}
+use Rattle.std.proofs.lemmas.Result.{on_ok_weaker}
+use Rattle.replay_model.specs.Record.{Impossible, Withdraws}
+use Rattle.replay_model.specs.World.{Server}
+use Rattle.replay_model.specs.Step.{Outcome, withdraw_event}
+use Rattle.replay_server.specs.Lives as server
+use Rattle.replay_world.specs.Stored.{Stored}
+use Rattle.replay_world.specs.Stands.{Stands}
+use Rattle.replay_world.specs.contracts.world.World.{the_view}
+use Rattle.replay_world.proofs.Machines.{withdrawn_in}
+use Rattle.replay_world.proofs.Standing.{plays_one, plays_as, stands-server}
+use Rattle.replay_world.proofs.world.World.withdraw.Goals as goal
+
+pub returns-in_default-clause-played : goal.returns-in_default-clause-played
+returns-in_default-clause-played c w h =
+    let s : Stored = the_view c.self.inside in
+    let before : List ℕ = c.args.out.now.items in
+    let kept : Stands s w = subst (λ (x : Stored). Stands x w) (sym c.self.view_is) h in
+    let after : List ℕ = c.put_impossible.new.out.items in
+    let now : Server = c.withdraw.new.self in
+    let o : Outcome = withdraw_event w c.args.name.now in
+    let did = subst (λ (d : Option ℕ). server.WithdrawsAs w now d o) c.in_default.is (withdrawn_in w s.server now c.args.name.now c.withdraw.result kept.server c.withdraw.ensures) in
+    let stands : Stands (record s { server = now }) w = subst (λ (x : Server). Stands (record s { server = now }) (record w { server = x })) (sym did.1) (stands-server s w now now kept refl) in
+    on_ok_weaker c.put_impossible.result (λ e. plays_as before after (record s { server = now }) w.records o _ did.0
+    (plays_one before after (record s { server = now }) w w.records Impossible e stands)) c.put_impossible.ensures
+
+pub returns-clause-played : goal.returns-clause-played
+returns-clause-played c w h =
+    let s : Stored = the_view c.self.inside in
+    let before : List ℕ = c.args.out.now.items in
+    let kept : Stands s w = subst (λ (x : Stored). Stands x w) (sym c.self.view_is) h in
+    let after : List ℕ = c.put_withdrawn.new.out.items in
+    let now : Server = c.withdraw.new.self in
+    let o : Outcome = withdraw_event w c.args.name.now in
+    let did = subst (λ (d : Option ℕ). server.WithdrawsAs w now d o) c.in-Some.is (withdrawn_in w s.server now c.args.name.now c.withdraw.result kept.server c.withdraw.ensures) in
+    on_ok_weaker c.put_withdrawn.result (λ e. plays_as before after (record s { server = now }) w.records o _ did
+    (plays_one before after (record s { server = now }) (record w { server = now }) w.records (Withdraws c.in-Some.index) e (stands-server s w now now kept refl))) c.put_withdrawn.ensures
