@@ -1,0 +1,4 @@
+pub mod Draws
+pub mod OpenCalls
+pub mod Rounds
+pub mod Summary
