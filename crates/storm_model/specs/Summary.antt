@@ -6,7 +6,7 @@ use Rattle.replay_model.specs.Record.{counts_of}
 use Rattle.replay_model.specs.Step.{run}
 use Rattle.replay_model.specs.World.{World}
 use Rattle.storm_model.specs.OpenCalls.{lost_over, open_calls}
-use Rattle.storm_model.specs.Rounds.{Storm, calm, world_of, storm}
+use Rattle.storm_model.specs.Rounds.{calm, storm}
 
 -- the accepted starts of calls; the runs of bodies; the calls that returned, without a signal and by one; those that
 -- failed unanswered, and that were refused; those that were open at their client's restart; those that are open
