@@ -1,7 +1,11 @@
-//! What a seed draws, worked out over whole numbers from the recurrence alone, and the two ends of the activities.
+//! What a seed draws, and rounds of each kind, worked out over whole numbers from the recurrence and the table of
+//! rounds alone.
 
-ghost use Rattle.std.specs.Prelude.{◌≡◌};
-ghost use Rattle.storm_model.specs.Rounds.{machine_of, process_of};
+ghost use Rattle.std.specs.Prelude.{◌≡◌, [], ◌∷◌, codes};
+ghost use Rattle.replay_model.specs.declared.event.CallWord.TheVariants as word;
+ghost use Rattle.replay_model.specs.declared.event.Event.TheVariants as event;
+ghost use Rattle.replay_model.specs.Step.{run};
+ghost use Rattle.storm_model.specs.Rounds.{machine_of, process_of, calm, round};
 
 use crate::Draws;
 
@@ -13,9 +17,41 @@ fn activities_have_two_ends()
     ensures last_process { process_of 63 ≡ 8 }
 {}
 
+/// A round of each kind over the first world, which has no packet.
+fn rounds_of_each_kind()
+    ensures null { round 20 calm 17 ≡ record { events = event.Call 7 2 word.Null ∷ []; x = 6215382037137340766 } }
+    ensures add { round 20 calm 46 ≡ record { events = event.Call 4 7 (word.Add 1196120038 703162634) ∷ []; x = 6040121041760133481 } }
+    ensures bump { round 20 calm 22 ≡ record { events = event.Call 9 7 (word.Bump 1) ∷ []; x = 10184759006705485351 } }
+    ensures max_arg { round 20 calm 10 ≡ record { events = event.Call 8 3 (word.MaxArg 574) ∷ []; x = 4015636148853147230 } }
+    ensures bind { round 20 calm 5 ≡ record { events = event.Bind 5 6 (codes "main") ∷ []; x = 15135621383883345378 } }
+    ensures no_delivery { round 20 calm 1 ≡ record { events = []; x = 7806831264735756412 } }
+    ensures work { round 20 calm 4 ≡ record { events = event.Work 1 ∷ []; x = 13512857827340264662 } }
+    ensures ticks { round 20 calm 2 ≡ record { events = event.Tick 7 3 4 ∷ []; x = 16917806452429146372 } }
+    ensures no_damage { round 20 calm 7 ≡ record { events = []; x = 9098160460397411210 } }
+    ensures restart { round 20 calm 31966 ≡ record { events = event.Second 2 ∷ event.Restart 7 ∷ []; x = 5467240833034137999 } }
+    ensures no_restart { round 20 calm 0 ≡ record { events = event.Work 2 ∷ []; x = 11166244414315200793 } }
+{}
+
+/// A call that may not start has its numbers drawn: one too many, or one of a process that isn't idle. A bind counts as
+/// no call.
+fn rounds_without_a_call()
+    ensures too_many { round 0 calm 46 ≡ record { events = []; x = 6040121041760133481 } }
+    ensures busy { round 20 (run calm (event.Call 4 7 word.Null ∷ [])) 46 ≡ record { events = []; x = 6040121041760133481 } }
+    ensures bind { round 0 calm 5 ≡ record { events = event.Bind 5 6 (codes "main") ∷ []; x = 15135621383883345378 } }
+{}
+
+/// Rounds over a world with one packet, whose frame has 74 bytes.
+fn rounds_with_a_packet()
+    ensures delivery { round 20 (run calm (event.Call 2 1 word.Null ∷ [])) 1 ≡ record { events = event.Deliver 1 ∷ []; x = 9396908728118811419 } }
+    ensures damage { round 20 (run calm (event.Call 2 1 word.Null ∷ [])) 7 ≡ record { events = event.Damage 1 225 ∷ []; x = 16723372171710603212 } }
+{}
+
 #[test]
-fn activities_are_computed() {
+fn rounds_are_computed() {
     activities_have_two_ends();
+    rounds_of_each_kind();
+    rounds_without_a_call();
+    rounds_with_a_packet();
 }
 
 #[test]
