@@ -1,8 +1,9 @@
 #!/bin/sh
 # Prints the bytes per second of `put` and `get`, for the largest array of bytes that a call carries and for an array
 # of 7,000 records of a CARDINAL and a LONGCARD, beside a copy of the bytes and, where a C compiler and the C
-# library's XDR (Debian: libtirpc-dev) are found, beside XDR on the same values. It is run by hand and is no part of
-# the gate: the times are the machine's, so read the ratios.
+# library's XDR (Debian: libtirpc-dev) are found, beside XDR on the same values. Then the time of `parse` for interface
+# texts of about 10,000 and 1,000,000 bytes: the second should take about a hundred times the first. It is run by hand
+# and is no part of the gate: the times are the machine's, so read the ratios.
 set -eu
 cd "$(dirname "$0")/.."
 work=$(mktemp -d)
@@ -19,7 +20,7 @@ cat > "$work/crates/plans_bench/src/main.rt" <<'RATTLE'
 #![tactic(auto)]
 
 use anyhow::{Context, Result, bail};
-use interface_text::{Ident, Interface, Procedure, Shape};
+use interface_text::{Ident, Interface, Procedure, Shape, parse};
 use item_list::Items;
 use marshal_plans::{Plan, Plans, Value, Values, compile, get, is_shallow, put};
 use std::alloc::Global;
@@ -129,9 +130,45 @@ fn records(rt: &HostRuntime) -> Result<()> {
     compare(rt, "records", &plan, &values, 200)
 }
 
+/// The text of an interface with so many procedures, each of so many parameters.
+fn text_of(alloc: Global, procedures: u32, names: u32) -> Result<String> {
+    let mut text = String::new(alloc);
+    text.push_str("INTERFACE Wide;\n")?;
+    for procedure in 0..procedures {
+        text.push_str(format!(in alloc; "PROCEDURE P{procedure}(VAR a")?.as_str())?;
+        for name in 0..names {
+            text.push_str(format!(in alloc; ", a{name}")?.as_str())?;
+        }
+        text.push_str(": CARDINAL);\n")?;
+    }
+    text.push_str("END Wide.\n")?;
+    Ok(text)
+}
+
+fn parses(rt: &HostRuntime, procedures: u32, names: u32, rounds: u32) -> Result<()> {
+    let text = text_of(rt.alloc(), procedures, names)?;
+    if text.len() > 1_048_576 {
+        bail!("beyond the limits");
+    }
+    let mut best = u128::MAX;
+    for _ in 0..RUNS {
+        let start = Instant::now(rt)?;
+        for _ in 0..rounds {
+            if parse(rt.alloc(), text.as_bytes()).is_err() {
+                bail!("a text with a fault");
+            }
+        }
+        best = best.min(start.elapsed(rt)?.as_nanos());
+    }
+    println!(rt; "parse text {} {rounds} {best}", text.len())?;
+    Ok(())
+}
+
 fn main(rt: HostRuntime) -> Result<()> {
     bulk(&rt)?;
-    records(&rt)
+    records(&rt)?;
+    parses(&rt, 25, 75, 200)?;
+    parses(&rt, 250, 679, 2)
 }
 RATTLE
 (cd "$work/crates/plans_bench" && rt run > "$work/build.log" 2>&1 < /dev/null || { cat "$work/build.log"; exit 1; })
@@ -144,7 +181,11 @@ else
     echo "the C library's XDR isn't found"
 fi
 
-awk '{ speed[$1, $2] = $3 * $4 * 1000 / $5
+awk '$1 == "parse" {
+           printf "parse of %7d bytes: %8.1f microseconds, %5.1f nanoseconds a byte\n", $3, $5 / $4 / 1000, $5 / $4 / $3
+           next
+       }
+     { speed[$1, $2] = $3 * $4 * 1000 / $5
        printf "%-10s %-8s %6d bytes: %8.0f million bytes per second\n", $1, $2, $3, speed[$1, $2] }
      END { for (pair in speed) {
                split(pair, part, SUBSEP)
