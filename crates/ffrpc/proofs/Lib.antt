@@ -1,9 +1,14 @@
 pub mod Completeness
+pub mod DrawnRounds
+pub mod Growth
 pub mod Laws
 pub mod PlanLines
 pub mod Planning
+pub mod PlayedRounds
 pub mod Playing
+pub mod RangedRounds
 pub mod Reading
 pub mod Saying
+pub mod Storming
 pub mod Stubbing
-pub mod Words
+pub mod Unplayed

@@ -3,14 +3,16 @@ use Rattle.std.specs.Prelude.{All}
 use Rattle.std.proofs.Common.{◌≡◌, ◌⊎◌, ℕ, ◌+◌, ◌*◌, ◌<◌, List, [], ◌∷◌, ◌++◌, length, take, drop, get_or, refl, sym, ap, subst, ◌∙◌, inl, inr, append_assoc, append-nil, arith, add-one}
 use Rattle.std.proofs.Math.Seq.{take-length, take-suc}
 use Rattle.std.proofs.lemmas.List.{take-append-drop}
-use Rattle.std.proofs.lemmas.List.Elements.{All-take}
+use Rattle.std.proofs.lemmas.List.Elements.{All-take, All-get_or}
 use Rattle.replay_model.specs.declared.event.Event.{Event}
+use Rattle.replay_model.specs.declared.event.Event.TheVariants as event
 use Rattle.replay_model.specs.Lines.{EndsLine}
 use Rattle.replay_model.specs.Record.{Counts, counts_of, no_records}
 use Rattle.replay_model.specs.World as model
 use Rattle.replay_model.specs.Script.{Script, InRange}
 use Rattle.replay_model.specs.Step.{step, outcome, run}
 use Rattle.replay_model.specs.Transcript.{transcript, lines, lines_from}
+use Rattle.replay_world.specs.Kept.{HasNamed}
 use Rattle.replay_world.specs.Stands.{Stands}
 use Rattle.replay_world.specs.Stored.{Stored, AllBelow, RoseByAtMost}
 use Rattle.ffrpc.specs.Outside.{Output, Wrote, Flushed}
@@ -28,26 +30,27 @@ pub record Playing (s : Script) (index : ℕ) (world : Stored) (out : List ℕ) 
   pub still : new.faults ≡ old.faults
   pub printed : lines_from (world_of s) (take index s.events) ≡ shown ++ out
   pub small : AllBelow (1000 * index + 1) world
+  pub has_all : world.forgotten ≡ 0
 
 -- nothing was sent or counted yet
-below_one : (world : Stored) → world.bag ≡ [] → world.counts ≡ counts_of no_records → AllBelow 1 world
-below_one world bag counts =
+below_one : (world : Stored) → world.bag ≡ [] → world.forgotten ≡ 0 → world.counts ≡ counts_of no_records → world.started ≡ 0 → world.lost ≡ 0 → AllBelow 1 world
+below_one world bag forgotten counts started lost =
     let packets : length world.bag ≡ 0 = ap length bag in
     let runs : world.counts.runs ≡ 0 = ap (λ (c : Counts). c.runs) counts in
     let returned : world.counts.returned ≡ 0 = ap (λ (c : Counts). c.returned) counts in
     let signalled : world.counts.signalled ≡ 0 = ap (λ (c : Counts). c.signalled) counts in
     let failed : world.counts.failed ≡ 0 = ap (λ (c : Counts). c.failed) counts in
     let refused : world.counts.refused ≡ 0 = ap (λ (c : Counts). c.refused) counts in
-    (omega (arith, packets), omega (arith, runs), omega (arith, returned), omega (arith, signalled), omega (arith, failed), omega (arith, refused))
+    (omega (arith, packets), omega (arith, runs), omega (arith, returned), omega (arith, signalled), omega (arith, failed), omega (arith, refused), omega arith, omega arith)
 
 -- one more event
 below_more : (i : ℕ) (old new : Stored) → AllBelow (1000 * i + 1) old → RoseByAtMost 1000 old new → AllBelow (1000 * (i + 1) + 1) new
 below_more i old new b r =
-    (omega (arith, b.0, r.0), omega (arith, b.1, r.1.0), omega (arith, b.2, r.1.1), omega (arith, b.3, r.1.2), omega (arith, b.4, r.1.3), omega (arith, b.5, r.1.4))
+    (omega (arith, b.0, r.0), omega (arith, b.1, r.1.0), omega (arith, b.2, r.1.1), omega (arith, b.3, r.1.2), omega (arith, b.4, r.1.3), omega (arith, b.5, r.1.4), omega (arith, b.6, r.2), omega (arith, b.7, r.3))
 
 pub Playing-start : Nothing → (s : Script) (world : Stored) (x : Output) → Stands world (model.first_world s.small s.long)
-    → world.bag ≡ [] → world.counts ≡ counts_of no_records → Playing s 0 world [] x x
-Playing-start nothing s world x stands bag counts = record {
+    → world.bag ≡ [] → world.forgotten ≡ 0 → world.counts ≡ counts_of no_records → world.started ≡ 0 → world.lost ≡ 0 → Playing s 0 world [] x x
+Playing-start nothing s world x stands bag forgotten counts started lost = record {
   stands = stands;
   shown = [];
   shown_ends = inl refl;
@@ -55,8 +58,32 @@ Playing-start nothing s world x stands bag counts = record {
   written = nothing x.written;
   still = refl;
   printed = refl;
-  small = below_one world bag counts;
+  small = below_one world bag forgotten counts started lost;
+  has_all = forgotten;
 }
+
+-- no event names a packet that is forgotten, where none is
+has_named : (world : Stored) (e : Event) → world.forgotten ≡ 0 → InRange e → HasNamed world e
+has_named world (event.Second second) none range = tt
+has_named world (event.Call machine process asked) none range = tt
+has_named world (event.Bind machine process name) none range = tt
+has_named world (event.Tick machine process count) none range = tt
+has_named world (event.Deliver packet) none range = omega (arith, range.0)
+has_named world (event.Damage packet bit) none range = omega (arith, range.0)
+has_named world (event.Export name) none range = tt
+has_named world (event.Withdraw name) none range = tt
+has_named world (event.Restart machine) none range = tt
+has_named world (event.Skip machine process count) none range = tt
+has_named world (event.Show packet) none range = omega (arith, range.0)
+has_named world (event.Work number) none range = tt
+has_named world event.Journal none range = tt
+has_named world event.End none range = tt
+
+pub Playing-named : (s : Script) (i : ℕ) (world : Stored) (events : List Event) (e : Event) (out : List ℕ) (old new : Output) → All InRange s.events
+    → Playing s i world out old new → i < length s.events → events ≡ s.events → e ≡ get_or events i e → HasNamed world e
+Playing-named s i world events e out old new ranges p below same is =
+    let one : get_or s.events i e ≡ e = sym (is ∙ ap (λ xs. get_or xs i e) same) in
+    has_named world e p.has_all (subst InRange one (All-get_or InRange s.events i e below ranges))
 
 -- the events so far, and one more
 run-push : (w : model.World) (events : List Event) (e : Event) → run w (events ++ e ∷ []) ≡ step (run w events) e
@@ -76,9 +103,9 @@ lines_end whole w e = whole (outcome w e).acts
 pub Playing-event : WholeLines → LinesJoin → (s : Script) (i : ℕ) (world world' : Stored) (events : List Event) (e : Event) (out out' : List ℕ) (old new : Output)
     → Playing s i world out old new → i < length s.events → events ≡ s.events → e ≡ get_or events i e
     → out' ≡ out ++ lines (run (world_of s) (take i s.events)) e
-    → Stands world' (step (run (world_of s) (take i s.events)) e) → RoseByAtMost 1000 world world'
+    → Stands world' (step (run (world_of s) (take i s.events)) e) → RoseByAtMost 1000 world world' → world'.forgotten ≡ world.forgotten
     → Playing s (i + 1) world' out' old new
-Playing-event whole joins s i world world' events e out out' old new p below same is printed stands small =
+Playing-event whole joins s i world world' events e out out' old new p below same is printed stands small keeps =
     let at : model.World = run (world_of s) (take i s.events) in
     let one : e ∷ [] ≡ get_or s.events i e ∷ [] = ap (λ x. x ∷ []) is ∙ ap (λ xs. get_or xs i e ∷ []) same in
     let next : take (i + 1) s.events ≡ take i s.events ++ e ∷ [] =
@@ -99,6 +126,7 @@ Playing-event whole joins s i world world' events e out out' old new p below sam
           ∙ append_assoc p.shown out (lines at e)
           ∙ ap (λ x. p.shown ++ x) (sym printed);
       small = below_more i world world' p.small small;
+      has_all = keeps ∙ p.has_all;
     }
 
 -- the front that was written ends a line, and so does what is kept
@@ -120,6 +148,7 @@ Playing-flush joins turn s i world out out' old mid new p f still =
       still = still ∙ p.still;
       printed = p.printed ∙ ap (λ x. p.shown ++ x) f.parts ∙ sym (append_assoc p.shown f.front out');
       small = p.small;
+      has_all = p.has_all;
     }
 
 -- no events

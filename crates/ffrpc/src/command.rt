@@ -1,16 +1,24 @@
 //! The commands of the program.
 
-ghost use Rattle.std.specs.Prelude.{◌≡◌, ◌≤◌, ◌↔◌, [], ◌∷◌, map, codes, string_bytes, IsErr, IsTrue, IfErr, IfOk};
+ghost use Rattle.std.specs.Prelude.{◌≡◌, ◌≤◌, ◌⊎◌, ℕ, [], Some, true, false, map, string_bytes, IsErr, IfErr, IfOk};
 ghost use Rattle.std.specs.IoError.{error_kind};
+ghost use Rattle.command_words.specs.Words.{are_taken, command_of};
 ghost use Rattle.ffrpc.specs.Outside.{input, output, WroteUnlessFailed};
 ghost use Rattle.ffrpc.specs.Replay.{Replays};
 ghost use Rattle.ffrpc.specs.Status.{fault_line, status_of_words};
+ghost use Rattle.ffrpc.specs.Storm.{Storms};
 ghost use Rattle.ffrpc.specs.Stubs.{Stubs};
+ghost use Rattle.storm_model.specs.declared.options.StormOptions.{StormOptions};
 
 use crate::replay::{end_with, run_replay};
 use crate::status::Status;
+use crate::storm::run_storm;
 use crate::stubs::run_stubs;
+use command_words::{Command, WordsFault, read_command};
 use ff_io::{Sink, Source};
+use once_law::{once_after_any_events, packets_survive_any_events};
+use rpc_header::a_spelling_is_32_bytes;
+use script_text::{no_fault_where_spelled, one_reading};
 use std::alloc::Global;
 use std::io;
 
@@ -22,21 +30,25 @@ pub fn run_words<S: Source, K: Sink>(
     sink: &mut K,
 ) -> Status
     // The words do what `ffrpc` does with them.
-    ensures usage { IfOk words (λ words. (result ≡ Status.Usage)
-        ↔ (((map string_bytes words.items ≡ codes "replay" ∷ []) → ⊥) × ((map string_bytes words.items ≡ codes "stubs" ∷ []) → ⊥))) }
-    ensures replays { IfOk words (λ words. map string_bytes words.items ≡ codes "replay" ∷ [] → Replays result
+    ensures usage { IfOk words (λ words. result ≡ Status.Usage → are_taken (map string_bytes words.items) ≡ false) }
+    ensures refused { IfOk words (λ words. are_taken (map string_bytes words.items) ≡ false
+        → (result ≡ Status.Usage) ⊎ (result ≡ Status.NoMemory)) }
+    ensures replays { IfOk words (λ words. command_of (map string_bytes words.items) ≡ Some Command.Replay → Replays result
         (input (S.left source.old) (S.faults source.old)) (input (S.left source.new) (S.faults source.new))
         (output (K.written sink.old) (K.faults sink.old)) (output (K.written sink.new) (K.faults sink.new))) }
-    ensures stubs { IfOk words (λ words. map string_bytes words.items ≡ codes "stubs" ∷ [] → Stubs result
+    ensures stubs { IfOk words (λ words. command_of (map string_bytes words.items) ≡ Some Command.Stubs → Stubs result
         (input (S.left source.old) (S.faults source.old)) (input (S.left source.new) (S.faults source.new))
+        (output (K.written sink.old) (K.faults sink.old)) (output (K.written sink.new) (K.faults sink.new))) }
+    ensures storms { IfOk words (λ words. (options : StormOptions) → command_of (map string_bytes words.items) ≡ Some (Command.Storm options)
+        → Storms result options.seed options.calls
+        (output (K.written sink.old) (K.faults sink.old)) (output (K.written sink.new) (K.faults sink.new))) }
+    ensures unread { IfOk words (λ words. are_taken (map string_bytes words.items) ≡ false → source.new ≡ source.old) }
+    ensures refused_line { IfOk words (λ words. are_taken (map string_bytes words.items) ≡ false → WroteUnlessFailed [] (fault_line result)
         (output (K.written sink.old) (K.faults sink.old)) (output (K.written sink.new) (K.faults sink.new))) }
 
     // Where they can't be had, the fault of that is told.
-    ensures refused { IfErr words (λ error. result ≡ status_of_words (error_kind error)) }
-    ensures unread { result ≡ Status.Usage → source.new ≡ source.old }
+    ensures unknown { IfErr words (λ error. result ≡ status_of_words (error_kind error)) }
     ensures unread_too { IsErr words → source.new ≡ source.old }
-    ensures usage_line { result ≡ Status.Usage → WroteUnlessFailed [] (fault_line Status.Usage)
-        (output (K.written sink.old) (K.faults sink.old)) (output (K.written sink.new) (K.faults sink.new)) }
     ensures line { IsErr words → WroteUnlessFailed [] (fault_line result)
         (output (K.written sink.old) (K.faults sink.old)) (output (K.written sink.new) (K.faults sink.new)) }
 {
@@ -46,24 +58,32 @@ pub fn run_words<S: Source, K: Sink>(
     }
 }
 
-/// Does what the words behind the program's name ask for: `replay` and `stubs` are the commands.
+/// Does what the words behind the program's name ask for.
 pub fn ffrpc<S: Source, K: Sink>(
     alloc: Global,
     words: &[String],
     source: &mut S,
     sink: &mut K,
 ) -> Status
-    // Other words are refused, and the source is left as it was.
-    ensures usage { (result ≡ Status.Usage)
-        ↔ (((map string_bytes words.now ≡ codes "replay" ∷ []) → ⊥) × ((map string_bytes words.now ≡ codes "stubs" ∷ []) → ⊥)) }
-    ensures unread { result ≡ Status.Usage → source.new ≡ source.old }
-    ensures usage_line { result ≡ Status.Usage → WroteUnlessFailed [] (fault_line Status.Usage)
-        (output (K.written sink.old) (K.faults sink.old)) (output (K.written sink.new) (K.faults sink.new)) }
-    ensures replays { map string_bytes words.now ≡ codes "replay" ∷ [] → Replays result
+    // What the words ask for is done, as the run call of their command says.
+    ensures replays { command_of (map string_bytes words.now) ≡ Some Command.Replay → Replays result
         (input (S.left source.old) (S.faults source.old)) (input (S.left source.new) (S.faults source.new))
         (output (K.written sink.old) (K.faults sink.old)) (output (K.written sink.new) (K.faults sink.new)) }
-    ensures stubs { map string_bytes words.now ≡ codes "stubs" ∷ [] → Stubs result
+    ensures stubs { command_of (map string_bytes words.now) ≡ Some Command.Stubs → Stubs result
         (input (S.left source.old) (S.faults source.old)) (input (S.left source.new) (S.faults source.new))
+        (output (K.written sink.old) (K.faults sink.old)) (output (K.written sink.new) (K.faults sink.new)) }
+    ensures storms { (options : StormOptions) → command_of (map string_bytes words.now) ≡ Some (Command.Storm options)
+        → Storms result options.seed options.calls
+        (output (K.written sink.old) (K.faults sink.old)) (output (K.written sink.new) (K.faults sink.new)) }
+    ensures storms_unread { (options : StormOptions) → command_of (map string_bytes words.now) ≡ Some (Command.Storm options)
+        → source.new ≡ source.old }
+
+    // Words that `clap` refuses are refused, unless memory runs out. Then the source is left as it was, and
+    // nothing but the fault line is written.
+    ensures usage { result ≡ Status.Usage → are_taken (map string_bytes words.now) ≡ false }
+    ensures refused { are_taken (map string_bytes words.now) ≡ false → (result ≡ Status.Usage) ⊎ (result ≡ Status.NoMemory) }
+    ensures unread { are_taken (map string_bytes words.now) ≡ false → source.new ≡ source.old }
+    ensures refused_line { are_taken (map string_bytes words.now) ≡ false → WroteUnlessFailed [] (fault_line result)
         (output (K.written sink.old) (K.faults sink.old)) (output (K.written sink.new) (K.faults sink.new)) }
 
     // No failure is hidden: a read that failed is told, and a write that failed isn't told as Ok.
@@ -72,31 +92,34 @@ pub fn ffrpc<S: Source, K: Sink>(
     ensures read_count { S.faults source.old ≤ S.faults source.new }
     ensures write_count { K.faults sink.old ≤ K.faults sink.new }
 {
-    if asks_for_replay(words) {
-        run_replay(alloc, source, sink)
-    } else if asks_for_stubs(words) {
-        run_stubs(alloc, source, sink)
-    } else {
-        end_with(sink, Status::Usage)
+    match read_command(alloc, words) {
+        Ok(Command::Replay) => run_replay(alloc, source, sink),
+        Ok(Command::Stubs) => run_stubs(alloc, source, sink),
+        Ok(Command::Storm(options)) => run_storm(alloc, &options, sink),
+        Err(WordsFault::Usage) => end_with(sink, Status::Usage),
+        Err(WordsFault::Memory) => end_without_memory(source, sink),
     }
 }
 
-/// Whether the words are the one word `replay`.
-fn asks_for_replay(words: &[String]) -> bool
-    ensures { IsTrue result ↔ (map string_bytes words.now ≡ codes "replay" ∷ []) }
+/// Ends a run for want of memory to read its words. So may the run of any command end.
+fn end_without_memory<S: Source, K: Sink>(source: &S, sink: &mut K) -> Status
+    ensures same { result ≡ Status.NoMemory }
+    ensures replays { Replays result
+        (input (S.left source.now) (S.faults source.now)) (input (S.left source.now) (S.faults source.now))
+        (output (K.written sink.old) (K.faults sink.old)) (output (K.written sink.new) (K.faults sink.new)) }
+    ensures stubs { Stubs result
+        (input (S.left source.now) (S.faults source.now)) (input (S.left source.now) (S.faults source.now))
+        (output (K.written sink.old) (K.faults sink.old)) (output (K.written sink.new) (K.faults sink.new)) }
+    ensures storms { (seed calls : ℕ) → Storms result seed calls
+        (output (K.written sink.old) (K.faults sink.old)) (output (K.written sink.new) (K.faults sink.new)) }
+    ensures line { WroteUnlessFailed [] (fault_line result)
+        (output (K.written sink.old) (K.faults sink.old)) (output (K.written sink.new) (K.faults sink.new)) }
+    ensures count { K.faults sink.old ≤ K.faults sink.new }
 {
-    match words {
-        [word] => word.as_str() == "replay",
-        _ => false,
-    }
-}
-
-/// Whether the words are the one word `stubs`.
-fn asks_for_stubs(words: &[String]) -> bool
-    ensures { IsTrue result ↔ (map string_bytes words.now ≡ codes "stubs" ∷ []) }
-{
-    match words {
-        [word] => word.as_str() == "stubs",
-        _ => false,
-    }
+    one_reading();
+    no_fault_where_spelled();
+    once_after_any_events();
+    packets_survive_any_events();
+    a_spelling_is_32_bytes();
+    end_with(sink, Status::NoMemory)
 }

@@ -2,12 +2,16 @@
 #![tactic(auto)]
 
 mod command;
+mod drawing;
 mod fault_line;
 mod plan_text;
 mod replay;
+mod rounds;
 mod status;
+mod storm;
 mod streams;
 mod stubs;
+mod summary;
 
 use command::run_words;
 use std::process::ExitCode;
@@ -44,6 +48,8 @@ mod loss_rows;
 mod restart_tests;
 #[cfg(test)]
 mod rows;
+#[cfg(test)]
+mod storm_tests;
 #[cfg(test)]
 mod stream_tests;
 #[cfg(test)]

@@ -4,6 +4,7 @@ ghost use Rattle.std.specs.Prelude.{◌≤◌};
 
 use crate::command::ffrpc;
 use crate::status::Status;
+use crate::storm_tests::SMALL_SUMMARY;
 use ff_io::{MemorySink, MemorySource, Short};
 use std::alloc::{AllocError, Global};
 use std::test::Fail;
@@ -129,12 +130,27 @@ fn one_byte_above_the_limit_is_too_long(rt: HostRuntime) -> Result<(), Fail> {
 
 #[test]
 fn other_words_are_refused(rt: HostRuntime) -> Result<(), Fail> {
-    let table: [&[&str]; 4] = [&[], &["replay", "replay"], &["play"], &["replay "]];
+    let table: [&[&str]; 5] = [
+        &[],
+        &["replay", "replay"],
+        &["play"],
+        &["replay "],
+        &["storm", "--seed=1"],
+    ];
     for words in table {
         let (status, written) = ran(rt.alloc(), words, &never_failing(EMPTY_CALL))?;
         assert_eq!(rt; status.number(), 2);
         assert_eq!(rt; written.as_slice(), b"fault Usage\n".as_slice());
     }
+    Ok(())
+}
+
+#[test]
+fn a_storm_is_played_by_its_words(rt: HostRuntime) -> Result<(), Fail> {
+    let words = ["storm", "--calls", "100", "--seed=1"];
+    let (status, written) = ran(rt.alloc(), &words, &never_failing(EMPTY_CALL))?;
+    assert_eq!(rt; status, Status::Ok);
+    assert_eq!(rt; written.as_slice(), SMALL_SUMMARY);
     Ok(())
 }
 

@@ -3,3 +3,4 @@ pub mod Rows
 pub mod Steps
 pub mod Numbered
 pub mod Outcomes
+pub mod OpenCalls

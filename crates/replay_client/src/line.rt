@@ -9,6 +9,7 @@ ghost use Rattle.call_rules.specs.Packet.{call_of, fields_of};
 ghost use Rattle.replay_model.specs.World as model;
 ghost use Rattle.replay_model.specs.Process as process;
 ghost use Rattle.replay_model.specs.Step as step;
+ghost use Rattle.storm_model.specs.OpenCalls.{open_in};
 
 use crate::task::Task;
 use crate::told::{Cause, Said, Told};
@@ -93,6 +94,20 @@ impl ClientLine {
         ensures { result ≡ rules.is_idle self.now.caller.state }
     {
         self.caller.is_idle()
+    }
+
+    /// How many calls it has open. A bind is no call.
+    pub fn open_calls(&self) -> u64
+        ensures exact { result ≡ open_in self.now.caller.state }
+        ensures few { result ≤ 1 }
+    {
+        if self.is_idle() {
+            return 0;
+        }
+        match self.task() {
+            Task::Call => 1,
+            Task::Bind => 0,
+        }
     }
 
     /// Its machine and its number there.

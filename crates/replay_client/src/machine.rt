@@ -6,6 +6,8 @@ ghost use Rattle.replay_model.specs.World as model;
 ghost use Rattle.replay_model.specs.World.{numbered};
 ghost use Rattle.replay_model.specs.Step as step;
 ghost use Rattle.replay_model.specs.Script.{IsAskable};
+ghost use Rattle.storm_model.specs.OpenCalls.{open_of};
+ghost use Rattle.storm_model.specs.Rounds.{is_idle_line};
 
 use crate::line::{ClientLine, Took};
 use crate::told::Told;
@@ -48,11 +50,15 @@ pub struct ClientMachine {
 }
 
 impl Model for ClientMachine {
+    ghost use Rattle.std.specs.Prelude.{◌≡◌, length};
     ghost use Rattle.replay_model.specs.World.{Client};
+    ghost use Rattle.replay_model.specs.declared.limits.TheConstants.{LAST_PROCESS};
 
     ghost Value = { Client };
 
     ghost view = { λ c. record { boot = c.boot; read = c.read; lines = c.lines.items } };
+
+    ghost invariant = { λ c. length c.lines.items ≡ LAST_PROCESS };
 }
 
 impl ClientMachine {
@@ -68,6 +74,29 @@ impl ClientMachine {
             read: boot,
             lines: boot_lines(alloc, boot, machine)?,
         })
+    }
+
+    /// How many of its processes have a call open. A bind is no call.
+    pub fn open_calls(&self) -> u64
+        ensures exact { result ≡ open_of self.now }
+        ensures few { result ≤ LAST_PROCESS }
+    {
+        let mut open = 0;
+        for line in &self.lines {
+            open += line.open_calls();
+        }
+        open
+    }
+
+    /// Whether there is a process of this number, with no call and no bind open.
+    pub fn is_idle(&self, process: u8) -> bool
+        requires { 1 ≤ process }
+        ensures { result ≡ is_idle_line (numbered 1 self.now.lines process) }
+    {
+        match self.lines.get(usize::from(process) - 1) {
+            Some(line) => line.is_idle(),
+            None => false,
+        }
     }
 
     /// A process is asked to start a call. The machine reads the second, but where the start is impossible. `Err`

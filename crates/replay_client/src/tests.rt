@@ -210,3 +210,20 @@ fn a_bind_carries_its_name(rt: HostRuntime) -> Result<(), Fail> {
     assert!(rt; matches!(again, Called::Impossible));
     Ok(())
 }
+
+#[test]
+fn open_calls_are_counted_without_binds(rt: HostRuntime) -> Result<(), Fail> {
+    let alloc = rt.alloc();
+    let mut client = ClientMachine::boot(alloc, 1, 2)?;
+    let Some(name) = read_name(b"echo") else {
+        return Err("a name".into());
+    };
+    assert!(rt; client.open_calls() == 0);
+    assert!(rt; client.is_idle(1) && client.is_idle(8) && !client.is_idle(9));
+    bind(&mut client, alloc, &name)?;
+    call(&mut client, alloc, 2)?;
+    call(&mut client, alloc, 8)?;
+    assert!(rt; client.open_calls() == 2);
+    assert!(rt; !client.is_idle(1) && !client.is_idle(8) && client.is_idle(3));
+    Ok(())
+}

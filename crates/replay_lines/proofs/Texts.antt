@@ -8,6 +8,8 @@ use Rattle.lane_checksum.specs.declared.Digest.{Digest}
 use Rattle.replay_model.specs.Digests.{RunDigest, run_digest}
 use Rattle.replay_model.specs.Lines.{blank, newline, bytes_text, run_text, hex, hex_byte, run_line, run_lines, journal_lines}
 use Rattle.call_rules.specs.Worker.{Run}
+use Rattle.replay_lines.specs.Page.{Page, written}
+use Rattle.replay_lines.proofs.Pages.{written-joined}
 
 -- a short text's bytes, and a long one's sum
 pub short_text : (d : Digest) → d.len ≤ 16 → (head : List ℕ) → head ≡ take d.len d.head → decimal d.len ++ (codes ":" ++ hex head) ≡ bytes_text d
@@ -46,20 +48,22 @@ run_lines-push i (x ∷ rs) r =
     ∙ ap (λ (n : ℕ). run_lines i (x ∷ rs) ++ run_line n r) e)
 
 -- the journal with one more of its lines
-pub runs_added : (o o1 o2 : List ℕ) (rs : List RunDigest) (i : ℕ) (r : RunDigest) → i < length rs → r ≡ get_or rs i r
-    → o1 ≡ o ++ run_lines 1 (take i rs) → o2 ≡ o1 ++ (codes "run " ++ (decimal (i + 1) ++ (blank ++ (run_text r ++ newline)))) → o2 ≡ o ++ run_lines 1 (take (i + 1) rs)
+pub runs_added : (o o1 o2 : Page) (rs : List RunDigest) (i : ℕ) (r : RunDigest) → i < length rs → r ≡ get_or rs i r
+    → o1 ≡ written o (run_lines 1 (take i rs)) → o2 ≡ written o1 (codes "run " ++ (decimal (i + 1) ++ (blank ++ (run_text r ++ newline))))
+    → o2 ≡ written o (run_lines 1 (take (i + 1) rs))
 runs_added o o1 o2 rs i r h is e f =
     let n : 1 + length (take i rs) ≡ i + 1 = omega (arith, length-take-le i rs (omega arith)) in
     f
-    ∙ (ap (λ (t : List ℕ). o1 ++ t) (regroup_five (codes "run ") (decimal (i + 1)) blank (run_text r) newline)
-    ∙ ap (λ (t : List ℕ). t ++ run_line (i + 1) r) e
-    ∙ (append_assoc o (run_lines 1 (take i rs)) (run_line (i + 1) r)
-    ∙ ap (λ (t : List ℕ). o ++ t)
+    ∙ (ap (written o1) (regroup_five (codes "run ") (decimal (i + 1)) blank (run_text r) newline)
+    ∙ ap (λ (p : Page). written p (run_line (i + 1) r)) e
+    ∙ (written-joined o (run_lines 1 (take i rs)) (run_line (i + 1) r)
+    ∙ ap (written o)
     (ap (λ (m : ℕ). run_lines 1 (take i rs) ++ run_line m r) (sym n)
     ∙ (sym (run_lines-push 1 (take i rs) r) ∙ ap (run_lines 1) (ap (λ (x : RunDigest). take i rs ++ x ∷ []) is ∙ sym (take_more rs i r h))))))
 
 -- a journal that isn't empty, by all its lines
-pub all_runs : (o o1 : List ℕ) (rs : List RunDigest) (i : ℕ) (journal : List Run) → 0 < length rs → length rs ≤ i → o1 ≡ o ++ run_lines 1 (take i rs) → rs ≡ map run_digest journal → o1 ≡ o ++ journal_lines (map run_digest journal)
+pub all_runs : (o o1 : Page) (rs : List RunDigest) (i : ℕ) (journal : List Run) → 0 < length rs → length rs ≤ i
+    → o1 ≡ written o (run_lines 1 (take i rs)) → rs ≡ map run_digest journal → o1 ≡ written o (journal_lines (map run_digest journal))
 all_runs o o1 [] i journal some all e is = elim some [ ]
 all_runs o o1 (r ∷ rs) i journal some all e is =
-    e ∙ (ap (λ (xs : List RunDigest). o ++ run_lines 1 xs) (take_all i (r ∷ rs) all) ∙ ap (λ (xs : List RunDigest). o ++ journal_lines xs) is)
+    e ∙ (ap (λ (xs : List RunDigest). written o (run_lines 1 xs)) (take_all i (r ∷ rs) all) ∙ ap (λ (xs : List RunDigest). written o (journal_lines xs)) is)

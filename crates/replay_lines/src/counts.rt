@@ -1,12 +1,13 @@
 //! The counts of calls, and the last line, which shows them.
 
-ghost use Rattle.std.specs.Prelude.{◌≡◌, ◌++◌, ◌<◌, ◌^◌, OnOk};
+ghost use Rattle.std.specs.Prelude.{◌≡◌, ◌<◌, ◌^◌, OnOk};
 ghost use Rattle.replay_model.specs.Record as act;
 ghost use Rattle.replay_model.specs.Record.{counts_of, no_records};
 ghost use Rattle.replay_model.specs.Lines.{lines_of_act};
 ghost use Rattle.replay_lines.specs.Counts.{counts_run, counts_return, counts_failure, counts_refusal};
+ghost use Rattle.replay_lines.specs.Page.{written};
 
-use crate::text::Print;
+use crate::text::{Page, Print};
 use std::alloc::AllocError;
 use std::marker::Model;
 
@@ -86,8 +87,8 @@ impl Counts {
 }
 
 /// Appends the last line, which shows the counts.
-pub fn put_end(out: &mut Vec<u8>, counts: &Counts) -> Result<(), AllocError>
-    ensures { OnOk result (out.new.items ≡ out.old.items ++ lines_of_act (act.Ends counts.now)) }
+pub fn put_end(out: &mut Page, counts: &Counts) -> Result<(), AllocError>
+    ensures { OnOk result (out.new ≡ written out.old (lines_of_act (act.Ends counts.now))) }
 {
     let Counts {
         runs,

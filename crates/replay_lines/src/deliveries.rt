@@ -1,11 +1,12 @@
 //! The lines of deliveries that hand no packet on to a caller.
 
-ghost use Rattle.std.specs.Prelude.{◌≡◌, ◌++◌, OnOk, Some};
+ghost use Rattle.std.specs.Prelude.{◌≡◌, OnOk, Some};
 ghost use Rattle.replay_model.specs.Record as act;
 ghost use Rattle.replay_model.specs.Lines.{lines_of_act, discard_text, frame_fault_text, header_fault_text};
+ghost use Rattle.replay_lines.specs.Page.{written};
 
 use crate::bytes::Hex;
-use crate::text::Print;
+use crate::text::{Page, Print};
 use replay_model::Discard;
 use rpc_header::HeaderFault;
 use std::alloc::AllocError;
@@ -13,22 +14,22 @@ use std::fmt::{self, Display, Formatter};
 use udp_frames::FrameFault;
 
 /// Appends the line of a packet that comes to the server's ready ones.
-pub fn put_ready(out: &mut Vec<u8>, packet: u32) -> Result<(), AllocError>
-    ensures { OnOk result (out.new.items ≡ out.old.items ++ lines_of_act (act.Readies packet)) }
+pub fn put_ready(out: &mut Page, packet: u32) -> Result<(), AllocError>
+    ensures { OnOk result (out.new ≡ written out.old (lines_of_act (act.Readies packet))) }
 {
     writeln!(out, "ready {packet}")
 }
 
 /// Appends the line of a delivery that ends without a packet handed on.
-pub fn put_discard(out: &mut Vec<u8>, why: Discard) -> Result<(), AllocError>
-    ensures { OnOk result (out.new.items ≡ out.old.items ++ lines_of_act (act.Discards why)) }
+pub fn put_discard(out: &mut Page, why: Discard) -> Result<(), AllocError>
+    ensures { OnOk result (out.new ≡ written out.old (lines_of_act (act.Discards why))) }
 {
     writeln!(out, "drop {}", DiscardText(why))
 }
 
 /// Appends the line that shows a packet's frame: the packet's number, and the length and the bytes of the frame.
-pub fn put_frame(out: &mut Vec<u8>, number: u32, frame: &[u8]) -> Result<(), AllocError>
-    ensures { OnOk result (out.new.items ≡ out.old.items ++ lines_of_act (act.Shows number frame.now)) }
+pub fn put_frame(out: &mut Page, number: u32, frame: &[u8]) -> Result<(), AllocError>
+    ensures { OnOk result (out.new ≡ written out.old (lines_of_act (act.Shows number frame.now))) }
 {
     writeln!(out, "frame {number} {} {}", frame.len(), Hex(frame))
 }

@@ -24,7 +24,7 @@ pub use deliveries::{put_discard, put_frame, put_ready};
 pub use lives::{put_export, put_no_export, put_restarted, put_second, put_skipped, put_withdrawn};
 pub use packets::put_packet;
 pub use runs::put_runs;
-pub use text::Print;
+pub use text::{Page, Print, pages_join};
 pub use work::{put_idle, put_work};
 
 #[cfg(test)]

@@ -1,53 +1,54 @@
 //! The lines of the world's second, of exports, of machines that boot anew and of numbers that are passed over.
 
-ghost use Rattle.std.specs.Prelude.{◌≡◌, ◌++◌, OnOk, Some};
+ghost use Rattle.std.specs.Prelude.{◌≡◌, OnOk, Some};
 ghost use Rattle.replay_model.specs.Record as act;
 ghost use Rattle.replay_model.specs.Lines.{lines_of_act, no_export_text};
+ghost use Rattle.replay_lines.specs.Page.{written};
 
-use crate::text::Print;
+use crate::text::{Page, Print};
 use binder::ExportFault;
 use rpc_header::{Activity, Export};
 use std::alloc::AllocError;
 use std::fmt::{self, Display, Formatter};
 
 /// Appends the line of the world's second, which is this one now.
-pub fn put_second(out: &mut Vec<u8>, second: u32) -> Result<(), AllocError>
-    ensures { OnOk result (out.new.items ≡ out.old.items ++ lines_of_act (act.Seconds second)) }
+pub fn put_second(out: &mut Page, second: u32) -> Result<(), AllocError>
+    ensures { OnOk result (out.new ≡ written out.old (lines_of_act (act.Seconds second))) }
 {
     writeln!(out, "second {second}")
 }
 
 /// Appends the line of a name that the server exports now.
-pub fn put_export(out: &mut Vec<u8>, export: Export) -> Result<(), AllocError>
-    ensures { OnOk result (out.new.items ≡ out.old.items ++ lines_of_act (act.Exports export)) }
+pub fn put_export(out: &mut Page, export: Export) -> Result<(), AllocError>
+    ensures { OnOk result (out.new ≡ written out.old (lines_of_act (act.Exports export))) }
 {
     writeln!(out, "export {} {}", export.index, export.identifier)
 }
 
 /// Appends the line of a name that it doesn't export, for this reason. No script prints want of memory.
-pub fn put_no_export(out: &mut Vec<u8>, why: ExportFault) -> Result<(), AllocError>
-    ensures { OnOk result (out.new.items ≡ out.old.items ++ lines_of_act (act.NoExport why)) }
+pub fn put_no_export(out: &mut Page, why: ExportFault) -> Result<(), AllocError>
+    ensures { OnOk result (out.new ≡ written out.old (lines_of_act (act.NoExport why))) }
 {
     writeln!(out, "noexport {}", NoExportText(why))
 }
 
 /// Appends the line of an export that is taken back.
-pub fn put_withdrawn(out: &mut Vec<u8>, index: u16) -> Result<(), AllocError>
-    ensures { OnOk result (out.new.items ≡ out.old.items ++ lines_of_act (act.Withdraws index)) }
+pub fn put_withdrawn(out: &mut Page, index: u16) -> Result<(), AllocError>
+    ensures { OnOk result (out.new ≡ written out.old (lines_of_act (act.Withdraws index))) }
 {
     writeln!(out, "withdrawn {index}")
 }
 
 /// Appends the line of a machine that has booted in this second.
-pub fn put_restarted(out: &mut Vec<u8>, machine: u8, second: u32) -> Result<(), AllocError>
-    ensures { OnOk result (out.new.items ≡ out.old.items ++ lines_of_act (act.Restarts machine second)) }
+pub fn put_restarted(out: &mut Page, machine: u8, second: u32) -> Result<(), AllocError>
+    ensures { OnOk result (out.new ≡ written out.old (lines_of_act (act.Restarts machine second))) }
 {
     writeln!(out, "restarted {machine} {second}")
 }
 
 /// Appends the line of an activity that passes over numbers, with its new next one.
-pub fn put_skipped(out: &mut Vec<u8>, activity: Activity, next: u64) -> Result<(), AllocError>
-    ensures { OnOk result (out.new.items ≡ out.old.items ++ lines_of_act (act.Skips activity next)) }
+pub fn put_skipped(out: &mut Page, activity: Activity, next: u64) -> Result<(), AllocError>
+    ensures { OnOk result (out.new ≡ written out.old (lines_of_act (act.Skips activity next))) }
 {
     writeln!(
         out,

@@ -1,11 +1,12 @@
 //! The lines of packets that are sent.
 
-ghost use Rattle.std.specs.Prelude.{◌≡◌, ◌++◌, OnOk, Some};
+ghost use Rattle.std.specs.Prelude.{◌≡◌, OnOk, Some};
 ghost use Rattle.call_rules.specs.Packet.{fields_of};
 ghost use Rattle.replay_model.specs.Lines.{flags_text, header_text, kind_text, packet_line};
+ghost use Rattle.replay_lines.specs.Page.{written};
 
 use crate::short::Short;
-use crate::text::Print;
+use crate::text::{Page, Print};
 use rpc_header::{Header, Kind};
 use std::alloc::AllocError;
 use std::fmt::{self, Display, Formatter};
@@ -13,14 +14,14 @@ use std::fmt::{self, Display, Formatter};
 /// Appends the line of a packet that machine `from`, a client or the server, sends to machine `to`, with its number
 /// and the length of its data.
 pub fn put_packet(
-    out: &mut Vec<u8>,
+    out: &mut Page,
     number: usize,
     from: u8,
     to: u8,
     header: &Header,
     len: usize,
 ) -> Result<(), AllocError>
-    ensures { OnOk result (out.new.items ≡ out.old.items ++ packet_line number from to (fields_of header.now) len) }
+    ensures { OnOk result (out.new ≡ written out.old (packet_line number from to (fields_of header.now) len)) }
 {
     let from = Short(from as u32);
     let to = Short(to as u32);

@@ -1,22 +1,23 @@
 //! The lines of the journal.
 
-ghost use Rattle.std.specs.Prelude.{◌≡◌, ◌++◌, List, map, OnOk, Some};
+ghost use Rattle.std.specs.Prelude.{◌≡◌, List, map, OnOk, Some};
 ghost use Rattle.call_rules.specs.Worker.{Run};
 ghost use Rattle.replay_model.specs.Record as act;
 ghost use Rattle.replay_model.specs.Lines.{lines_of_act, procedure_text, run_text};
 ghost use Rattle.replay_model.specs.Digests.{run_digest};
+ghost use Rattle.replay_lines.specs.Page.{written};
 
 use crate::bytes::{BytesText, ReplyText};
 use crate::calls::CallText;
-use crate::text::Print;
+use crate::text::{Page, Print};
 use replay_model::{ADD, BUMP, MAX_ARG, MAX_RESULT, NULL, RunLine};
 use std::alloc::AllocError;
 use std::fmt::{self, Display, Formatter};
 
 /// Appends the journal: the line of each run, or one line that says that there is none.
-pub fn put_runs(out: &mut Vec<u8>, runs: &[RunLine]) -> Result<(), AllocError>
+pub fn put_runs(out: &mut Page, runs: &[RunLine]) -> Result<(), AllocError>
     ensures { (journal : List Run) → runs.now ≡ map run_digest journal →
-        OnOk result (out.new.items ≡ out.old.items ++ lines_of_act (act.ListsRuns journal)) }
+        OnOk result (out.new ≡ written out.old (lines_of_act (act.ListsRuns journal))) }
 {
     if runs.is_empty() {
         return writeln!(out, "journal empty");

@@ -43,7 +43,7 @@ fn long_result(alloc: Global) -> Result<Vec<u8>, AllocError> {
 fn calls_start_and_return(rt: HostRuntime) -> Result<(), Fail> {
     let alloc = rt.alloc();
     let call = first_call().ok_or("a call number")?;
-    let mut out = Vec::new(alloc);
+    let mut out = Page::of(Vec::new(alloc));
     put_impossible(&mut out)?;
     put_start(&mut out, call)?;
     put_too_fast(&mut out, 131_072, 1)?;
@@ -53,7 +53,7 @@ fn calls_start_and_return(rt: HostRuntime) -> Result<(), Fail> {
     let long = long_result(alloc)?;
     assert_eq!(rt; long.len(), 1441);
     put_return(&mut out, call, false, digest_of(&long))?;
-    assert_eq!(rt; out.as_slice(), CALLS);
+    assert_eq!(rt; out.into_text().as_slice(), CALLS);
     Ok(())
 }
 
@@ -72,7 +72,7 @@ fn calls_wait_and_fail_and_names_are_bound(rt: HostRuntime) -> Result<(), Fail> 
         identifier: 4,
         index: 3,
     };
-    let mut out = Vec::new(rt.alloc());
+    let mut out = Page::of(Vec::new(rt.alloc()));
     put_waiting(&mut out, call)?;
     put_failure(&mut out, call)?;
     put_refusal(&mut out, call, 2)?;
@@ -80,7 +80,7 @@ fn calls_wait_and_fail_and_names_are_bound(rt: HostRuntime) -> Result<(), Fail> 
     put_bound(&mut out, call, export)?;
     put_unbound(&mut out, call)?;
     put_quiet(&mut out)?;
-    assert_eq!(rt; out.as_slice(), ENDINGS);
+    assert_eq!(rt; out.into_text().as_slice(), ENDINGS);
     Ok(())
 }
 
@@ -101,7 +101,7 @@ fn names_are_exported_and_machines_boot_anew(rt: HostRuntime) -> Result<(), Fail
         identifier: 2,
         index: 1,
     };
-    let mut out = Vec::new(rt.alloc());
+    let mut out = Page::of(Vec::new(rt.alloc()));
     put_second(&mut out, 2)?;
     put_restarted(&mut out, 1, 2)?;
     put_bind(&mut out, call)?;
@@ -111,7 +111,7 @@ fn names_are_exported_and_machines_boot_anew(rt: HostRuntime) -> Result<(), Fail
     put_no_export(&mut out, ExportFault::TooFast { next: 2, now: 1 })?;
     put_withdrawn(&mut out, 1)?;
     put_skipped(&mut out, call.activity, 131_072)?;
-    assert_eq!(rt; out.as_slice(), LIVES);
+    assert_eq!(rt; out.into_text().as_slice(), LIVES);
     Ok(())
 }
 
@@ -137,7 +137,7 @@ fn packets_are_sent(rt: HostRuntime) -> Result<(), Fail> {
         },
         procedure: 0,
     };
-    let mut out = Vec::new(alloc);
+    let mut out = Page::of(Vec::new(alloc));
     put_packet(&mut out, 1, 2, 1, &header, 0)?;
     header.kind = Kind::Result;
     header.please_ack = true;
@@ -152,7 +152,7 @@ fn packets_are_sent(rt: HostRuntime) -> Result<(), Fail> {
     header.please_ack = true;
     header.fragment = 0;
     put_packet(&mut out, 5, 2, 1, &header, 0)?;
-    assert_eq!(rt; out.as_slice(), PACKETS);
+    assert_eq!(rt; out.into_text().as_slice(), PACKETS);
     Ok(())
 }
 
@@ -186,7 +186,7 @@ worker 4 drops NoBuffer\n";
 #[test]
 fn packets_come_and_workers_step(rt: HostRuntime) -> Result<(), Fail> {
     let alloc = rt.alloc();
-    let mut out = Vec::new(alloc);
+    let mut out = Page::of(Vec::new(alloc));
     put_ready(&mut out, 1)?;
     put_frame(&mut out, 1, &[0x00, 0xff, 0x9a])?;
     put_discard(&mut out, Discard::Frame(FrameFault::NotForUs))?;
@@ -213,7 +213,7 @@ fn packets_come_and_workers_step(rt: HostRuntime) -> Result<(), Fail> {
     put_work(&mut out, 4, 65536, Did::Rejects(2))?;
     put_work(&mut out, 4, 65536, Did::Waits)?;
     put_work(&mut out, 4, 65536, Did::Drops(Unfit::NoBuffer))?;
-    assert_eq!(rt; out.as_slice(), STEPS);
+    assert_eq!(rt; out.into_text().as_slice(), STEPS);
     Ok(())
 }
 
@@ -229,7 +229,7 @@ end runs 3 returned 1 signalled 1 failed 2 refused 1\n";
 fn runs_are_listed_and_counted(rt: HostRuntime) -> Result<(), Fail> {
     let alloc = rt.alloc();
     let call = first_call().ok_or("a call number")?;
-    let mut out = Vec::new(alloc);
+    let mut out = Page::of(Vec::new(alloc));
     let mut runs = Vec::new(alloc);
     put_runs(&mut out, &runs)?;
     let mut counts = Counts::none();
@@ -252,6 +252,15 @@ fn runs_are_listed_and_counted(rt: HostRuntime) -> Result<(), Fail> {
     runs.push(RunLine::new(call, 4, &[0, 1, 0x67, 0xfd], true, &[0, 1]))?;
     put_runs(&mut out, &runs)?;
     put_end(&mut out, &counts)?;
-    assert_eq!(rt; out.as_slice(), ENDS);
+    assert_eq!(rt; out.into_text().as_slice(), ENDS);
+    Ok(())
+}
+
+#[test]
+fn nothing_comes_onto_a_blank_page(rt: HostRuntime) -> Result<(), Fail> {
+    let mut out = Page::blank(rt.alloc());
+    put_quiet(&mut out)?;
+    put_idle(&mut out, 1)?;
+    assert!(rt; out.into_text().is_empty());
     Ok(())
 }

@@ -1,25 +1,26 @@
 //! The lines of workers.
 
-ghost use Rattle.std.specs.Prelude.{◌≡◌, ◌++◌, OnOk, Some};
+ghost use Rattle.std.specs.Prelude.{◌≡◌, OnOk, Some};
 ghost use Rattle.replay_model.specs.Record as act;
 ghost use Rattle.replay_model.specs.Lines.{did_text, unfit_text, lines_of_act};
+ghost use Rattle.replay_lines.specs.Page.{written};
 
 use crate::short::Short;
-use crate::text::Print;
+use crate::text::{Page, Print};
 use call_rules::{Did, Unfit};
 use std::alloc::AllocError;
 use std::fmt::{self, Display, Formatter};
 
 /// Appends the line of a worker that finds nothing to do.
-pub fn put_idle(out: &mut Vec<u8>, worker: u8) -> Result<(), AllocError>
-    ensures { OnOk result (out.new.items ≡ out.old.items ++ lines_of_act (act.Idles worker)) }
+pub fn put_idle(out: &mut Page, worker: u8) -> Result<(), AllocError>
+    ensures { OnOk result (out.new ≡ written out.old (lines_of_act (act.Idles worker))) }
 {
     writeln!(out, "worker {worker} idle")
 }
 
 /// Appends the line of a worker's step for a call of this number.
-pub fn put_work(out: &mut Vec<u8>, worker: u8, number: u64, did: Did) -> Result<(), AllocError>
-    ensures { OnOk result (out.new.items ≡ out.old.items ++ lines_of_act (act.Works worker number did)) }
+pub fn put_work(out: &mut Page, worker: u8, number: u64, did: Did) -> Result<(), AllocError>
+    ensures { OnOk result (out.new ≡ written out.old (lines_of_act (act.Works worker number did))) }
 {
     let worker = Short(worker as u32);
     writeln!(out, "worker {worker} {}", DidText { number, did })

@@ -1,11 +1,14 @@
 -- What the machines' clauses say over a world for whose machines they stand.
-use Rattle.std.proofs.Common.{◌≡◌, ℕ, List, Bool, Option, Some, None, Result, subst, refl, ◌∙◌}
+use Rattle.std.proofs.Common.{◌≡◌, ℕ, List, [], ◌∷◌, Bool, true, false, cond, Option, Some, None, Result, ap, subst, refl, ◌∙◌}
+use Rattle.std.specs.Prelude.{nat_lt}
 use Rattle.rpc_header.specs.declared.Export.{Export}
 use Rattle.binder.specs.declared.row.ExportFault.{ExportFault}
 use Rattle.call_rules.specs.Packet.{Packet}
 use Rattle.replay_model.specs.declared.event.CallWord.{CallWord}
-use Rattle.replay_model.specs.World.{World, Server, Client, numbered}
-use Rattle.replay_model.specs.Step.{work_event, call_by, bind_by, skip_by, boots_client, boots_server, export_event, withdraw_event, client_takes, ticks_line}
+use Rattle.replay_model.specs.Record.{Impossible, Restarts}
+use Rattle.replay_model.specs.World.{World, Server, Client, numbered, booted_client}
+use Rattle.replay_model.specs.Step.{Outcome, impossible, with_client, work_event, call_by, bind_by, skip_by, boots_client, boots_server, export_event, withdraw_event, client_takes, ticks_line}
+use Rattle.storm_model.specs.OpenCalls.{open_of, lost_of}
 use Rattle.replay_server.specs.declared.step.Worked.{Worked}
 use Rattle.replay_server.specs.Stepped.{WorksAs, KeepsIdle}
 use Rattle.replay_server.specs.Lives.{ExportsAs, WithdrawsAs}
@@ -127,3 +130,22 @@ server_boots_in w second old now booted at is told =
     let T : ℕ → Type 0 = λ n. server.RestartsAs (record w { server = old; second = n }) old now booted (boots_server (record w { server = old; second = n })) in
     let P : Server → Type 0 = λ s. server.RestartsAs (record w { server = s }) s now booted (boots_server (record w { server = s })) in
     subst P is (subst T at (told w))
+
+-- the calls that a client has lost where it has booted anew, and where it hasn't
+lost_late : (late : Bool) (w : World) (machine : ℕ) (c now : Client)
+    → cond late (record { world = with_client w machine (booted_client w.second machine); acts = Restarts machine w.second ∷ [] }) (impossible w) ≡ record { world = with_client w machine now; acts = Restarts machine w.second ∷ [] }
+    → cond late (open_of c) 0 ≡ open_of c
+lost_late true w machine c now h = refl
+lost_late false w machine c now h = let acts = ap (λ (o : Outcome). o.acts) h in absurd (cc)
+
+pub lost_booted : (w : World) (machine : ℕ) (c now : Client) → client.RestartsAs w machine c now true (boots_client w machine (Some c)) → lost_of w (Some c) ≡ open_of c
+lost_booted w machine c now h = lost_late (nat_lt c.read w.second) w machine c now h
+
+lost_early : (late : Bool) (w : World) (machine : ℕ) (c : Client)
+    → cond late (record { world = with_client w machine (booted_client w.second machine); acts = Restarts machine w.second ∷ [] }) (impossible w) ≡ impossible w
+    → cond late (open_of c) 0 ≡ 0
+lost_early true w machine c h = let acts = ap (λ (o : Outcome). o.acts) h in absurd (cc)
+lost_early false w machine c h = refl
+
+pub lost_stayed : (w : World) (machine : ℕ) (c now : Client) → client.RestartsAs w machine c now false (boots_client w machine (Some c)) → lost_of w (Some c) ≡ 0
+lost_stayed w machine c now h = lost_early (nat_lt c.read w.second) w machine c h.0

@@ -1,4 +1,5 @@
 pub mod Delivery
+pub mod Kept
 pub mod Played
 pub mod Stands
 pub mod Stored

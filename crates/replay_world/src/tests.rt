@@ -1,7 +1,14 @@
-//! The empty call.
+//! The empty call, and what a storm asks for.
 
-use crate::World;
+ghost use Rattle.std.specs.Prelude.{◌≤◌, OnOk};
+ghost use Rattle.replay_model.specs.Script.{InRange};
+ghost use Rattle.replay_world.specs.Stored.{AllBelow, RoseByAtMost};
+
+use crate::{KEPT_PACKETS, World};
+use binder::read_name;
+use replay_model::limits::{FIRST_CLIENT, LAST_CLIENT, LAST_PROCESS};
 use replay_model::{CallWord, Event};
+use std::alloc::{AllocError, Global};
 use std::test::Fail;
 
 const EMPTY_CALL: &[u8] = b"start 2.1 65536\n\
@@ -36,5 +43,83 @@ fn the_empty_call(rt: HostRuntime) -> Result<(), Fail> {
     world.apply(alloc, &Event::Journal, &mut out)?;
     world.apply(alloc, &Event::End, &mut out)?;
     assert_eq!(rt; out.as_slice(), EMPTY_CALL);
+    Ok(())
+}
+
+/// A call without arguments of a process.
+fn null_call(machine: u8, process: u8) -> Event
+    requires machine { (FIRST_CLIENT ≤ machine) × (machine ≤ LAST_CLIENT) }
+    requires process { (1 ≤ process) × (process ≤ LAST_PROCESS) }
+    ensures { InRange result }
+{
+    Event::Call {
+        machine,
+        process,
+        word: CallWord::Null,
+    }
+}
+
+/// A process of machine 2 calls in vain: it sends its call eight times, and gives up.
+fn call_in_vain(alloc: Global, world: &mut World, process: u8) -> Result<(), AllocError>
+    requires process { (1 ≤ process) × (process ≤ LAST_PROCESS) }
+    requires few { AllBelow 100000 world.old }
+    ensures { OnOk result (RoseByAtMost 2000 world.old world.new) }
+{
+    world.play(alloc, &null_call(2, process))?;
+    let ticks = Event::Tick {
+        machine: 2,
+        process,
+        times: 100,
+    };
+    world.play(alloc, &ticks)
+}
+
+#[test]
+fn the_first_packet_is_forgotten(rt: HostRuntime) -> Result<(), Fail> {
+    let alloc = rt.alloc();
+    let mut world = World::make(alloc, 256, 72)?;
+    for process in 1..9 {
+        call_in_vain(alloc, &mut world, process)?;
+    }
+    world.play(alloc, &null_call(3, 1))?;
+    assert_eq!(rt; world.counts().failed, 8);
+    world.forget();
+    assert_eq!(rt; world.packets(), 65);
+    assert_eq!(rt; KEPT_PACKETS, 64);
+    assert_eq!(rt; world.length(0), None);
+    assert_eq!(rt; world.length(1), None);
+    assert_eq!(rt; world.length(2), Some(74));
+    assert_eq!(rt; world.length(65), Some(74));
+    assert_eq!(rt; world.length(66), None);
+    let mut out = Vec::new(alloc);
+    world.apply(alloc, &Event::Deliver(2), &mut out)?;
+    assert_eq!(rt; out.as_slice(), b"ready 2\n".as_slice());
+    Ok(())
+}
+
+/// A call that is open at the restart of its client is lost, and a bind isn't.
+#[test]
+fn a_restart_loses_the_open_call(rt: HostRuntime) -> Result<(), Fail> {
+    let alloc = rt.alloc();
+    let mut world = World::make(alloc, 256, 72)?;
+    world.play(alloc, &null_call(9, 8))?;
+    let name = read_name(b"main").ok_or("a name")?;
+    let bind = Event::Bind {
+        machine: 9,
+        process: 1,
+        name,
+    };
+    world.play(alloc, &bind)?;
+    assert_eq!(rt; world.is_idle(9, 8), false);
+    assert_eq!(rt; world.is_idle(9, 1), false);
+    assert_eq!(rt; world.is_idle(9, 2), true);
+    world.play(alloc, &Event::Restart(9))?;
+    assert_eq!(rt; world.counts().lost, 0);
+    world.play(alloc, &Event::Second(2))?;
+    world.play(alloc, &Event::Restart(9))?;
+    assert_eq!(rt; world.second(), 2);
+    assert_eq!(rt; world.is_idle(9, 8), true);
+    assert_eq!(rt; world.counts().started, 1);
+    assert_eq!(rt; world.counts().lost, 1);
     Ok(())
 }

@@ -1,9 +1,10 @@
 //! The second, names that are bound to and exported, machines that boot anew, and numbers that are passed over.
 
-ghost use Rattle.std.specs.Prelude.{◌≡◌, ◌≤◌, ◌^◌, ℕ, OnOk};
+ghost use Rattle.std.specs.Prelude.{◌≡◌, ◌≤◌, ◌+◌, ◌^◌, ℕ, OnOk};
 ghost use Rattle.replay_model.specs.World as model;
 ghost use Rattle.replay_model.specs.Step as step;
-ghost use Rattle.replay_world.specs.Stored.{AllBelow, RoseByAtMost};
+ghost use Rattle.storm_model.specs.OpenCalls.{lost_of};
+ghost use Rattle.replay_world.specs.Stored.{AllBelow, RoseByAtMost, Keeps};
 ghost use Rattle.replay_world.specs.Stands.{Stands};
 ghost use Rattle.replay_world.specs.Played.{Plays};
 
@@ -12,17 +13,18 @@ use binder::Name;
 use ff_io::Station;
 use replay_client::Called;
 use replay_lines::{
-    put_bind, put_export, put_impossible, put_no_export, put_restarted, put_second, put_skipped,
-    put_too_fast, put_withdrawn,
+    Page, put_bind, put_export, put_impossible, put_no_export, put_restarted, put_second,
+    put_skipped, put_too_fast, put_withdrawn,
 };
-use replay_model::limits::{FIRST_CLIENT, LAST_CLIENT, SERVER_MACHINE};
+use replay_model::limits::{FIRST_CLIENT, LAST_CLIENT, LAST_PROCESS, SERVER_MACHINE};
 use std::alloc::{AllocError, Global};
 
 impl World {
     /// The world's second becomes another, which is later.
-    pub fn pass(&mut self, second: u32, out: &mut Vec<u8>) -> Result<(), AllocError>
-        ensures played { (w : model.World) → Stands self.old w → OnOk result (Plays out.old.items out.new.items self.new w.records
+    pub fn pass(&mut self, second: u32, out: &mut Page) -> Result<(), AllocError>
+        ensures played { (w : model.World) → Stands self.old w → OnOk result (Plays out.old out.new self.new w.records
             (step.second_event w second)) }
+        ensures keeps { OnOk result (Keeps self.old self.new) }
         ensures few { OnOk result (RoseByAtMost 1 self.old self.new) }
     {
         if second <= self.second {
@@ -39,13 +41,14 @@ impl World {
         machine: u8,
         process: u8,
         name: &Name,
-        out: &mut Vec<u8>,
+        out: &mut Page,
     ) -> Result<(), AllocError>
         requires machine { (FIRST_CLIENT ≤ machine) × (machine ≤ LAST_CLIENT) }
         requires process { 1 ≤ process }
         requires few { AllBelow (2 ^ 63) self.old }
-        ensures played { (w : model.World) → Stands self.old w → OnOk result (Plays out.old.items out.new.items self.new w.records
+        ensures played { (w : model.World) → Stands self.old w → OnOk result (Plays out.old out.new self.new w.records
             (step.bind_event w machine process (model.numbered FIRST_CLIENT w.clients machine) name.now)) }
+        ensures keeps { OnOk result (Keeps self.old self.new) }
         ensures few { OnOk result (RoseByAtMost 1 self.old self.new) }
     {
         let place = usize::from(machine - FIRST_CLIENT);
@@ -70,12 +73,13 @@ impl World {
         machine: u8,
         process: u8,
         by: u32,
-        out: &mut Vec<u8>,
+        out: &mut Page,
     ) -> Result<(), AllocError>
         requires machine { (FIRST_CLIENT ≤ machine) × (machine ≤ LAST_CLIENT) }
         requires process { 1 ≤ process }
-        ensures played { (w : model.World) → Stands self.old w → OnOk result (Plays out.old.items out.new.items self.new w.records
+        ensures played { (w : model.World) → Stands self.old w → OnOk result (Plays out.old out.new self.new w.records
             (step.skip_event w machine process (model.numbered FIRST_CLIENT w.clients machine) by)) }
+        ensures keeps { OnOk result (Keeps self.old self.new) }
         ensures few { OnOk result (RoseByAtMost 1 self.old self.new) }
     {
         let place = usize::from(machine - FIRST_CLIENT);
@@ -89,14 +93,10 @@ impl World {
     }
 
     /// The server exports the test service by a name.
-    pub fn export(
-        &mut self,
-        alloc: Global,
-        name: &Name,
-        out: &mut Vec<u8>,
-    ) -> Result<(), AllocError>
-        ensures played { (w : model.World) → Stands self.old w → OnOk result (Plays out.old.items out.new.items self.new w.records
+    pub fn export(&mut self, alloc: Global, name: &Name, out: &mut Page) -> Result<(), AllocError>
+        ensures played { (w : model.World) → Stands self.old w → OnOk result (Plays out.old out.new self.new w.records
             (step.export_event w name.now)) }
+        ensures keeps { OnOk result (Keeps self.old self.new) }
         ensures few { OnOk result (RoseByAtMost 1 self.old self.new) }
     {
         let export = match self.server.export(alloc, *name, self.second)? {
@@ -107,9 +107,10 @@ impl World {
     }
 
     /// The server takes the export of a name back.
-    pub fn withdraw(&mut self, name: &Name, out: &mut Vec<u8>) -> Result<(), AllocError>
-        ensures played { (w : model.World) → Stands self.old w → OnOk result (Plays out.old.items out.new.items self.new w.records
+    pub fn withdraw(&mut self, name: &Name, out: &mut Page) -> Result<(), AllocError>
+        ensures played { (w : model.World) → Stands self.old w → OnOk result (Plays out.old out.new self.new w.records
             (step.withdraw_event w name.now)) }
+        ensures keeps { OnOk result (Keeps self.old self.new) }
         ensures few { OnOk result (RoseByAtMost 1 self.old self.new) }
     {
         let Some(index) = self.server.withdraw(*name) else {
@@ -119,16 +120,15 @@ impl World {
     }
 
     /// A machine boots anew.
-    pub fn restart(
-        &mut self,
-        alloc: Global,
-        machine: u8,
-        out: &mut Vec<u8>,
-    ) -> Result<(), AllocError>
-        requires { (SERVER_MACHINE ≤ machine) × (machine ≤ LAST_CLIENT) }
-        ensures played { (w : model.World) → Stands self.old w → OnOk result (Plays out.old.items out.new.items self.new w.records
+    pub fn restart(&mut self, alloc: Global, machine: u8, out: &mut Page) -> Result<(), AllocError>
+        requires machine { (SERVER_MACHINE ≤ machine) × (machine ≤ LAST_CLIENT) }
+        requires few { AllBelow (2 ^ 63) self.old }
+        ensures played { (w : model.World) → Stands self.old w → OnOk result (Plays out.old out.new self.new w.records
             (step.restart_event w machine)) }
-        ensures few { OnOk result (RoseByAtMost 1 self.old self.new) }
+        ensures lost { (w : model.World) → Stands self.old w
+            → OnOk result (self.new.lost ≡ self.old.lost + lost_of w (model.numbered FIRST_CLIENT w.clients machine)) }
+        ensures keeps { OnOk result (self.new.forgotten ≡ self.old.forgotten) }
+        ensures few { OnOk result (RoseByAtMost LAST_PROCESS self.old self.new) }
     {
         if machine == SERVER_MACHINE {
             return self.restart_server(alloc, out);
@@ -136,9 +136,10 @@ impl World {
         self.restart_client(alloc, machine, out)
     }
 
-    fn restart_server(&mut self, alloc: Global, out: &mut Vec<u8>) -> Result<(), AllocError>
-        ensures played { (w : model.World) → Stands self.old w → OnOk result (Plays out.old.items out.new.items self.new w.records
+    fn restart_server(&mut self, alloc: Global, out: &mut Page) -> Result<(), AllocError>
+        ensures played { (w : model.World) → Stands self.old w → OnOk result (Plays out.old out.new self.new w.records
             (step.boots_server w)) }
+        ensures keeps { OnOk result (Keeps self.old self.new) }
         ensures few { OnOk result (RoseByAtMost 1 self.old self.new) }
     {
         let booted = self.server.restart(alloc, self.second)?;
@@ -152,21 +153,28 @@ impl World {
         &mut self,
         alloc: Global,
         machine: u8,
-        out: &mut Vec<u8>,
+        out: &mut Page,
     ) -> Result<(), AllocError>
-        requires { (FIRST_CLIENT ≤ machine) × (machine ≤ LAST_CLIENT) }
-        ensures played { (w : model.World) → Stands self.old w → OnOk result (Plays out.old.items out.new.items self.new w.records
+        requires machine { (FIRST_CLIENT ≤ machine) × (machine ≤ LAST_CLIENT) }
+        requires few { AllBelow (2 ^ 63) self.old }
+        ensures played { (w : model.World) → Stands self.old w → OnOk result (Plays out.old out.new self.new w.records
             (step.boots_client w machine (model.numbered FIRST_CLIENT w.clients machine))) }
-        ensures few { OnOk result (RoseByAtMost 1 self.old self.new) }
+        ensures lost { (w : model.World) → Stands self.old w
+            → OnOk result (self.new.lost ≡ self.old.lost + lost_of w (model.numbered FIRST_CLIENT w.clients machine)) }
+        ensures keeps { OnOk result (self.new.forgotten ≡ self.old.forgotten) }
+        ensures few { OnOk result (RoseByAtMost LAST_PROCESS self.old self.new) }
     {
         let place = usize::from(machine - FIRST_CLIENT);
         if place >= self.clients.len() {
             return put_impossible(out);
         }
-        let booted = self.clients[place].restart(alloc, machine, self.second)?;
+        let client = &mut self.clients[place];
+        let interrupted = client.open_calls();
+        let booted = client.restart(alloc, machine, self.second)?;
         if !booted {
             return put_impossible(out);
         }
+        self.lost += interrupted;
         put_restarted(out, machine, self.second)
     }
 }

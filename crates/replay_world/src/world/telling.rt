@@ -6,10 +6,11 @@ ghost use Rattle.replay_model.specs.Record.{Records};
 ghost use Rattle.replay_model.specs.Lines.{packet_line};
 ghost use Rattle.replay_model.specs.World as model;
 ghost use Rattle.replay_model.specs.Step.{Outcome};
+ghost use Rattle.replay_lines.specs.Page.{written};
 ghost use Rattle.replay_packets.specs.Sent.{sent_of};
 ghost use Rattle.replay_client.specs.Told.{TellsAs, cause_of};
 ghost use Rattle.replay_server.specs.Stepped.{StepsAs};
-ghost use Rattle.replay_world.specs.Stored.{AllBelow, RoseByAtMost};
+ghost use Rattle.replay_world.specs.Stored.{AllBelow, RoseByAtMost, Keeps, packets_of};
 ghost use Rattle.replay_world.specs.Stands.{Stands};
 ghost use Rattle.replay_world.specs.Delivery.{TakenAs};
 ghost use Rattle.replay_world.specs.Played.{Plays, fails};
@@ -18,8 +19,8 @@ use super::World;
 use crate::delivery::Taken;
 use replay_client::{Cause, Said, Told};
 use replay_lines::{
-    put_bind_failure, put_bound, put_discard, put_failure, put_packet, put_ready, put_refusal,
-    put_return, put_unbound, put_waiting, put_work,
+    Page, put_bind_failure, put_bound, put_discard, put_failure, put_packet, put_ready,
+    put_refusal, put_return, put_unbound, put_waiting, put_work,
 };
 use replay_packets::Outgoing;
 use replay_server::{Adds, Stepped};
@@ -28,10 +29,11 @@ use std::alloc::AllocError;
 
 impl World {
     /// Tells what a process says of its call or its bind.
-    pub fn tell(&mut self, told: Told, out: &mut Vec<u8>) -> Result<(), AllocError>
+    pub fn tell(&mut self, told: Told, out: &mut Page) -> Result<(), AllocError>
         requires { AllBelow (2 ^ 63) self.old }
         ensures played { (w : model.World) (r : Records) (o : Outcome) → TellsAs w told o → Stands self.old (record w { records = r })
-            → OnOk result (Plays out.old.items out.new.items self.new r o) }
+            → OnOk result (Plays out.old out.new self.new r o) }
+        ensures keeps { OnOk result (Keeps self.old self.new) }
         ensures few { OnOk result (RoseByAtMost 1 self.old self.new) }
     {
         let Told { call, said } = told;
@@ -51,15 +53,11 @@ impl World {
     }
 
     /// Tells why a call failed.
-    fn tell_failure(
-        &mut self,
-        call: CallId,
-        cause: Cause,
-        out: &mut Vec<u8>,
-    ) -> Result<(), AllocError>
+    fn tell_failure(&mut self, call: CallId, cause: Cause, out: &mut Page) -> Result<(), AllocError>
         requires { AllBelow (2 ^ 63) self.old }
         ensures played { (w : model.World) → Stands self.old w
-            → OnOk result (Plays out.old.items out.new.items self.new w.records (fails w (call_of call) (cause_of cause))) }
+            → OnOk result (Plays out.old out.new self.new w.records (fails w (call_of call) (cause_of cause))) }
+        ensures keeps { OnOk result (Keeps self.old self.new) }
         ensures few { OnOk result (RoseByAtMost 1 self.old self.new) }
     {
         match cause {
@@ -79,12 +77,13 @@ impl World {
         &mut self,
         worker: u8,
         stepped: Stepped,
-        out: &mut Vec<u8>,
+        out: &mut Page,
     ) -> Result<(), AllocError>
         requires { AllBelow (2 ^ 63) self.old }
         ensures played { (w : model.World) (s : model.Server) (r : Records) (o : Outcome) → StepsAs w worker s stepped o
             → Stands self.old (record w { server = s; records = r })
-            → OnOk result (Plays out.old.items out.new.items self.new r o) }
+            → OnOk result (Plays out.old out.new self.new r o) }
+        ensures keeps { OnOk result (Keeps self.old self.new) }
         ensures few { OnOk result (RoseByAtMost 1 self.old self.new) }
     {
         let Stepped { number, did, adds } = stepped;
@@ -105,11 +104,12 @@ impl World {
         &mut self,
         number: u32,
         taken: Taken,
-        out: &mut Vec<u8>,
+        out: &mut Page,
     ) -> Result<(), AllocError>
         requires { AllBelow (2 ^ 63) self.old }
         ensures played { (w : model.World) (o : Outcome) → TakenAs w number taken o → Stands self.old w
-            → OnOk result (Plays out.old.items out.new.items self.new w.records o) }
+            → OnOk result (Plays out.old out.new self.new w.records o) }
+        ensures keeps { OnOk result (Keeps self.old self.new) }
         ensures few { OnOk result (RoseByAtMost 1 self.old self.new) }
     {
         match taken {
@@ -120,16 +120,16 @@ impl World {
     }
 
     /// Sends a packet.
-    fn send(&mut self, packet: Outgoing, out: &mut Vec<u8>) -> Result<(), AllocError>
-        requires { length self.old.bag < 2 ^ 63 }
+    fn send(&mut self, packet: Outgoing, out: &mut Page) -> Result<(), AllocError>
+        requires { packets_of self.old < 2 ^ 63 }
         ensures bag { OnOk result (self.new ≡ record self.old { bag = self.old.bag ++ sent_of packet ∷ [] }) }
-        ensures printed { OnOk result (out.new.items
-            ≡ out.old.items ++ packet_line (length self.old.bag + 1) packet.from packet.to packet.header (length packet.payload)) }
+        ensures printed { OnOk result (out.new
+            ≡ written out.old (packet_line (packets_of self.old + 1) packet.from packet.to packet.header (length packet.payload))) }
     {
-        let number = self.bag.len() + 1;
+        self.packets += 1;
         put_packet(
             out,
-            number,
+            self.packets as usize,
             packet.from().machine,
             packet.to().machine,
             packet.header(),

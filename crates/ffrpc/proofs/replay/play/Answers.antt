@@ -2,7 +2,7 @@ use Rattle.std.proofs.Common.{◌≡◌, ◌<◌, length, take, ap, sym, subst, 
 use Rattle.std.proofs.lemmas.Result.{err_from_is_err_and}
 use Rattle.ffrpc.specs.Outside.{Wrote, output}
 use Rattle.script_text.specs.Reading.{script_of}
-use Rattle.ffrpc.proofs.Playing.{Playing, Playing-start, Playing-event, Playing-flush, Playing-stop, Playing-fail, Playing-end, nothing_shown}
+use Rattle.ffrpc.proofs.Playing.{Playing, Playing-start, Playing-named, Playing-event, Playing-flush, Playing-stop, Playing-fail, Playing-end, nothing_shown}
 use Rattle.ffrpc.proofs.replay.play.Goals as goal
 
 pub returns-in_err-apply-clause-err : goal.returns-in_err-apply-clause-err
@@ -12,9 +12,10 @@ returns-in_err-apply-clause-err g c =
 
 pub returns-in_err-flush_full-clause-err : goal.returns-in_err-flush_full-clause-err
 returns-in_err-flush_full-clause-err g c =
-    let st = c.in_ok-apply.ensures.step _ c.loop-event.invariant.playing.stands in
     let below : c.loop-event.event-index < length c.args.script.now.events = omega (arith, ap length c.as_slice-event-items.ensures) in
-    let after = Playing-event c.acts_print_whole_lines.ensures.acts c.acts_print_whole_lines.ensures.joins _ _ _ _ _ _ _ _ _ _ c.loop-event.invariant.playing below c.as_slice-event-items.ensures c.event-item.is st.0 st.1 c.in_ok-apply.ensures.few in
+    let named = Playing-named _ _ _ _ _ _ _ _ c.requires.in_range c.loop-event.invariant.playing below c.as_slice-event-items.ensures c.event-item.is in
+    let st = c.in_ok-apply.ensures.step _ c.loop-event.invariant.playing.stands named in
+    let after = Playing-event c.acts_print_whole_lines.ensures.acts c.acts_print_whole_lines.ensures.joins _ _ _ _ _ _ _ _ _ _ c.loop-event.invariant.playing below c.as_slice-event-items.ensures c.event-item.is st.0 st.1 c.in_ok-apply.ensures.few c.in_ok-apply.ensures.keeps in
     let part = c.in_err-flush_full.ensures.part in
     let p = err_from_is_err_and c.from_residual-in_err-flush_full.result c.from_residual-in_err-flush_full.ensures.1 in
     rw (p.1, p.2) (
@@ -24,9 +25,10 @@ returns-in_err-flush_full-clause-err g c =
 
 pub loop-event-preserved : goal.loop-event-preserved
 loop-event-preserved g c =
-    let st = c.in_ok-apply.ensures.step _ c.loop-event.invariant.playing.stands in
     let below : c.loop-event.event-index < length c.args.script.now.events = omega (arith, ap length c.as_slice-event-items.ensures) in
-    let after = Playing-event c.acts_print_whole_lines.ensures.acts c.acts_print_whole_lines.ensures.joins _ _ _ _ _ _ _ _ _ _ c.loop-event.invariant.playing below c.as_slice-event-items.ensures c.event-item.is st.0 st.1 c.in_ok-apply.ensures.few in
+    let named = Playing-named _ _ _ _ _ _ _ _ c.requires.in_range c.loop-event.invariant.playing below c.as_slice-event-items.ensures c.event-item.is in
+    let st = c.in_ok-apply.ensures.step _ c.loop-event.invariant.playing.stands named in
+    let after = Playing-event c.acts_print_whole_lines.ensures.acts c.acts_print_whole_lines.ensures.joins _ _ _ _ _ _ _ _ _ _ c.loop-event.invariant.playing below c.as_slice-event-items.ensures c.event-item.is st.0 st.1 c.in_ok-apply.ensures.few c.in_ok-apply.ensures.keeps in
     record {
       playing = Playing-flush c.acts_print_whole_lines.ensures.joins c.told_laws.ensures.appended_in_turn _ _ _ _ _ _ _ _ after c.in_ok-flush_full.ensures.ok c.in_ok-flush_full.ensures.still;
     }
@@ -59,7 +61,8 @@ loop-event-init g c =
     record {
       playing = subst (λ out. Playing (script_of c.args.script.now) 0 c.in_ok-world.world out first first) (sym c.new-out.ensures.items)
           (Playing-start c.told_laws.ensures.nothing_appended (script_of c.args.script.now) c.in_ok-world.world first
-          c.in_ok-world.ensures.stands c.in_ok-world.ensures.no_packet c.in_ok-world.ensures.no_count);
+          c.in_ok-world.ensures.stands c.in_ok-world.ensures.no_packet c.in_ok-world.ensures.none_forgotten c.in_ok-world.ensures.no_count
+          c.in_ok-world.ensures.none_started c.in_ok-world.ensures.none_lost);
     }
 
 pub returns-in_err-world-clause-err : goal.returns-in_err-world-clause-err

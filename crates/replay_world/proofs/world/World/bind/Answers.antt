@@ -8,6 +8,7 @@ use Rattle.replay_model.specs.Step.{Outcome, bind_by, impossible, behind, with_c
 use Rattle.replay_client.specs.declared.machine.Called.{Called}
 use Rattle.replay_client.specs.declared.machine.Called.TheVariants as called
 use Rattle.replay_client.specs.Client.{BindsAs, KeepsImpossible, BeginsAs}
+use Rattle.replay_lines.specs.Page.{Page, written}
 use Rattle.replay_world.specs.Stored.{Stored}
 use Rattle.replay_world.specs.Stands.{Stands, IsClient}
 use Rattle.replay_world.specs.contracts.world.World.{the_view}
@@ -21,8 +22,8 @@ use Rattle.replay_world.proofs.world.World.bind.Goals as goal
 pub returns-then-place-len-clause-played : goal.returns-then-place-len-clause-played
 returns-then-place-len-clause-played c w h =
     let s : Stored = the_view c.self.inside in
-    let before : List ℕ = c.args.out.now.items in
-    let after : List ℕ = c.put_impossible.new.out.items in
+    let before : Page = c.args.out.now in
+    let after : Page = c.put_impossible.new.out in
     let m : ℕ = c.args.machine in
     let kept : Stands s w = subst (λ (x : Stored). Stands x w) (sym c.self.view_is) h in
     let same = zip-length IsClient s.clients w.clients kept.clients in
@@ -35,8 +36,8 @@ returns-then-place-len-clause-played c w h =
 pub returns-in-Impossible-clause-played : goal.returns-in-Impossible-clause-played
 returns-in-Impossible-clause-played c w h =
     let s : Stored = the_view c.self.inside in
-    let before : List ℕ = c.args.out.now.items in
-    let after : List ℕ = c.put_impossible-in-Impossible.new.out.items in
+    let before : Page = c.args.out.now in
+    let after : Page = c.put_impossible-in-Impossible.new.out in
     let m : ℕ = c.args.machine in
     let place : ℕ = c.from-place.result in
     let name : List ℕ = c.args.name.now in
@@ -56,8 +57,8 @@ returns-in-Impossible-clause-played c w h =
 pub returns-in-TooFast-clause-played : goal.returns-in-TooFast-clause-played
 returns-in-TooFast-clause-played c w h =
     let s : Stored = the_view c.self.inside in
-    let before : List ℕ = c.args.out.now.items in
-    let after : List ℕ = c.put_too_fast.new.out.items in
+    let before : Page = c.args.out.now in
+    let after : Page = c.put_too_fast.new.out in
     let m : ℕ = c.args.machine in
     let n : ℕ = c.in-TooFast.number in
     let place : ℕ = c.from-place.result in
@@ -73,14 +74,14 @@ returns-in-TooFast-clause-played c w h =
     on_ok_weaker c.put_too_fast.result (λ e. plays_as before after (record s { clients = set s.clients place now }) w.records _ _
     (bind_event-some w m c.args.process _ found.client name found.there ∙ did.1)
     (plays_one before after (record s { clients = set s.clients place now }) (with_client w m now) w.records (TooFast did.0 n w.second)
-    (e ∙ ap (λ (x : ℕ). before ++ lines_of_act (TooFast did.0 n x)) kept.second) stands)) (c.put_too_fast.ensures did.0)
+    (e ∙ ap (λ (x : ℕ). written before (lines_of_act (TooFast did.0 n x))) kept.second) stands)) (c.put_too_fast.ensures did.0)
 
 pub returns-in_ok-put_bind-in-Starts-clause-played : goal.returns-in_ok-put_bind-in-Starts-clause-played
 returns-in_ok-put_bind-in-Starts-clause-played c w h =
     let s : Stored = the_view c.self.inside in
-    let before : List ℕ = c.args.out.now.items in
-    let middle : List ℕ = c.put_bind.new.out.items in
-    let after : List ℕ = c.tell.new.out.items in
+    let before : Page = c.args.out.now in
+    let middle : Page = c.put_bind.new.out in
+    let after : Page = c.tell.new.out in
     let m : ℕ = c.args.machine in
     let place : ℕ = c.from-place.result in
     let name : List ℕ = c.args.name.now in
@@ -99,4 +100,4 @@ returns-in_ok-put_bind-in-Starts-clause-played c w h =
     on_ok_weaker c.tell.result (λ p. plays_as before after c.tell.new.self w.records _ (behind (Binds begun) did.first)
     (bind_event-some w m c.args.process _ found.client name found.there ∙ did.outcome)
     (plays_behind before middle after c.tell.new.self w.records (Binds begun) did.first c.in_ok-put_bind-in-Starts.ensures p))
-    (c.tell.ensures.played w' r did.first did.tells (stands-beside s' w' r refl refl stands))
+    (c.tell.ensures.played w' r did.first did.tells (stands-beside s' w' r refl refl refl stands))

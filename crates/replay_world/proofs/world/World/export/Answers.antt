@@ -6,6 +6,7 @@ use Rattle.replay_model.specs.Record.{Exports, NoExport}
 use Rattle.replay_model.specs.World.{Server}
 use Rattle.replay_model.specs.Step.{Outcome, export_event}
 use Rattle.replay_server.specs.Lives as server
+use Rattle.replay_lines.specs.Page.{Page}
 use Rattle.replay_world.specs.Stored.{Stored}
 use Rattle.replay_world.specs.Stands.{Stands}
 use Rattle.replay_world.specs.contracts.world.World.{the_view}
@@ -16,9 +17,9 @@ use Rattle.replay_world.proofs.world.World.export.Goals as goal
 pub returns-clause-played : goal.returns-clause-played
 returns-clause-played c w h =
     let s : Stored = the_view c.self.inside in
-    let before : List ℕ = c.args.out.now.items in
+    let before : Page = c.args.out.now in
     let kept : Stands s w = subst (λ (x : Stored). Stands x w) (sym c.self.view_is) h in
-    let after : List ℕ = c.put_export.new.out.items in
+    let after : Page = c.put_export.new.out in
     let now : Server = c.export.new.self in
     let o : Outcome = export_event w c.args.name.now in
     let did = subst (λ (d : Result Export ExportFault). server.ExportsAs w now d o) c.in-Ok.is
@@ -29,9 +30,9 @@ returns-clause-played c w h =
 pub returns-in-Err-clause-played : goal.returns-in-Err-clause-played
 returns-in-Err-clause-played c w h =
     let s : Stored = the_view c.self.inside in
-    let before : List ℕ = c.args.out.now.items in
+    let before : Page = c.args.out.now in
     let kept : Stands s w = subst (λ (x : Stored). Stands x w) (sym c.self.view_is) h in
-    let after : List ℕ = c.put_no_export.new.out.items in
+    let after : Page = c.put_no_export.new.out in
     let now : Server = c.export.new.self in
     let o : Outcome = export_event w c.args.name.now in
     let did = subst (λ (d : Result Export ExportFault). server.ExportsAs w now d o) c.in-Err.is

@@ -2,6 +2,7 @@ use Rattle.std.proofs.Common.{ℕ, ◌≤◌, List, sym, subst, arith}
 use Rattle.std.proofs.lemmas.Result.{on_ok_weaker}
 use Rattle.replay_model.specs.Record.{Impossible, Seconds}
 use Rattle.replay_model.specs.Step.{impossible}
+use Rattle.replay_lines.specs.Page.{Page}
 use Rattle.replay_world.specs.Stored.{Stored}
 use Rattle.replay_world.specs.Stands.{Stands}
 use Rattle.replay_world.specs.contracts.world.World.{the_view}
@@ -12,9 +13,9 @@ use Rattle.replay_world.proofs.world.World.pass.Goals as goal
 pub returns-then-second-self-clause-played : goal.returns-then-second-self-clause-played
 returns-then-second-self-clause-played c w h =
     let s : Stored = the_view c.self.inside in
-    let before : List ℕ = c.args.out.now.items in
+    let before : Page = c.args.out.now in
     let kept : Stands s w = subst (λ (x : Stored). Stands x w) (sym c.self.view_is) h in
-    let after : List ℕ = c.put_impossible.new.out.items in
+    let after : Page = c.put_impossible.new.out in
     let late : c.args.second ≤ w.second = omega (arith, kept.second) in
     rw (← c.self.view_is)
     (on_ok_weaker c.put_impossible.result (λ e. plays_as before after s w.records _ (impossible w) (second_event-late w c.args.second late)
@@ -23,9 +24,9 @@ returns-then-second-self-clause-played c w h =
 pub returns-clause-played : goal.returns-clause-played
 returns-clause-played c w h =
     let s : Stored = the_view c.self.inside in
-    let before : List ℕ = c.args.out.now.items in
+    let before : Page = c.args.out.now in
     let kept : Stands s w = subst (λ (x : Stored). Stands x w) (sym c.self.view_is) h in
-    let after : List ℕ = c.put_second.new.out.items in
+    let after : Page = c.put_second.new.out in
     let n : ℕ = c.args.second in
     on_ok_weaker c.put_second.result (λ e. plays_as before after (record s { second = n }) w.records _ _ (second_event-passes w n (omega (arith, kept.second)))
     (plays_one before after (record s { second = n }) (record w { second = n }) w.records (Seconds n) e (stands-second s w n kept))) c.put_second.ensures

@@ -1,25 +1,27 @@
-use Rattle.std.proofs.Common.{ℕ, ◌-◌, ◌≤◌, List, ◌++◌, Bool, Some, length, set, ap, sym, subst, refl, ◌∙◌, arith}
+use Rattle.std.proofs.Common.{◌≡◌, ℕ, ◌+◌, ◌-◌, ◌≤◌, List, ◌++◌, Bool, Some, length, set, ap, sym, subst, refl, ◌∙◌, arith}
 use Rattle.std.proofs.lemmas.Result.{on_ok_weaker}
 use Rattle.replay_model.specs.Record.{Impossible, Restarts}
 use Rattle.replay_model.specs.Lines.{lines_of_act}
-use Rattle.replay_model.specs.World.{Client}
+use Rattle.replay_model.specs.World.{Client, numbered}
 use Rattle.replay_model.specs.Step.{Outcome, impossible, with_client, boots_client}
+use Rattle.storm_model.specs.OpenCalls.{open_of, lost_of}
 use Rattle.replay_client.specs.Client as client
+use Rattle.replay_lines.specs.Page.{Page, written}
 use Rattle.replay_world.specs.Stored.{Stored}
 use Rattle.replay_world.specs.Stands.{Stands, IsClient}
 use Rattle.replay_world.specs.contracts.world.World.{the_view}
-use Rattle.replay_world.proofs.Machines.{client_boots_in}
+use Rattle.replay_world.proofs.Machines.{client_boots_in, lost_booted, lost_stayed}
 use Rattle.replay_world.proofs.Numbered.{numbered-none}
-use Rattle.replay_world.proofs.Standing.{plays_one, plays_as, stands-clients, client_of, clients_with, clients_same}
+use Rattle.replay_world.proofs.Standing.{on_ok_always, plays_one, plays_as, stands-clients, stands-lost, client_of, clients_with, clients_same}
 use Rattle.replay_world.proofs.Zips.{zip-length}
 use Rattle.replay_world.proofs.world.World.restart_client.Goals as goal
 
 pub returns-then-place-len-clause-played : goal.returns-then-place-len-clause-played
 returns-then-place-len-clause-played c w h =
     let s : Stored = the_view c.self.inside in
-    let before : List ℕ = c.args.out.now.items in
+    let before : Page = c.args.out.now in
     let kept : Stands s w = subst (λ (x : Stored). Stands x w) (sym c.self.view_is) h in
-    let after : List ℕ = c.put_impossible.new.out.items in
+    let after : Page = c.put_impossible.new.out in
     let m : ℕ = c.args.machine in
     let same = zip-length IsClient s.clients w.clients kept.clients in
     let past : length w.clients ≤ m - 2 = omega (arith, c.self.inside.clients.ok.0) in
@@ -31,36 +33,78 @@ returns-then-place-len-clause-played c w h =
 pub returns-clause-played : goal.returns-clause-played
 returns-clause-played c w h =
     let s : Stored = the_view c.self.inside in
-    let before : List ℕ = c.args.out.now.items in
+    let before : Page = c.args.out.now in
     let kept : Stands s w = subst (λ (x : Stored). Stands x w) (sym c.self.view_is) h in
-    let after : List ℕ = c.put_restarted.new.out.items in
+    let after : Page = c.put_restarted.new.out in
     let m : ℕ = c.args.machine in
     let place : ℕ = c.from-place.result in
-    let old : Client = c.index_mut.result.now in
+    let old : Client = c.index_mut-client.result.now in
     let now : Client = c.restart.new.self in
-    let found = client_of s.clients w.clients m place old kept.clients (omega arith) c.from-place.ensures (omega (arith, c.self.inside.clients.ok.0)) c.index_mut.ensures.value in
+    let found = client_of s.clients w.clients m place old kept.clients (omega arith) c.from-place.ensures (omega (arith, c.self.inside.clients.ok.0)) c.index_mut-client.ensures.value in
     let o : Outcome = boots_client w m (Some found.client) in
     let did = subst (λ (d : Bool). client.RestartsAs w m found.client now d o) c.if-not-booted.false (client_boots_in w s.second m found.client old now c.in_ok-booted.booted kept.second found.is_client c.in_ok-booted.ensures) in
-    let stands = stands-clients s w (set s.clients place now) (set w.clients (m - 2) now) kept (clients_with s.clients w.clients m place now now kept.clients refl c.from-place.ensures) in
-    on_ok_weaker c.put_restarted.result (λ e. plays_as before after (record s { clients = set s.clients place now }) w.records _ _
+    let s' : Stored = record s { clients = set s.clients place now; lost = s.lost + c.open_calls-interrupted.result } in
+    let stands = stands-lost _ _ s'.lost (stands-clients s w s'.clients (set w.clients (m - 2) now) kept (clients_with s.clients w.clients m place now now kept.clients refl c.from-place.ensures)) in
+    on_ok_weaker c.put_restarted.result (λ e. plays_as before after s' w.records _ _
     (ap (boots_client w m) found.there ∙ did)
-    (plays_one before after (record s { clients = set s.clients place now }) (with_client w m now) w.records (Restarts m w.second)
-    (e ∙ ap (λ (x : ℕ). before ++ lines_of_act (Restarts m x)) kept.second) stands)) c.put_restarted.ensures
+    (plays_one before after s' (with_client w m now) w.records (Restarts m w.second)
+    (e ∙ ap (λ (x : ℕ). written before (lines_of_act (Restarts m x))) kept.second) stands)) c.put_restarted.ensures
 
 pub returns-then-not-booted-clause-played : goal.returns-then-not-booted-clause-played
 returns-then-not-booted-clause-played c w h =
     let s : Stored = the_view c.self.inside in
-    let before : List ℕ = c.args.out.now.items in
+    let before : Page = c.args.out.now in
     let kept : Stands s w = subst (λ (x : Stored). Stands x w) (sym c.self.view_is) h in
-    let after : List ℕ = c.put_impossible-then-not-booted.new.out.items in
+    let after : Page = c.put_impossible-then-not-booted.new.out in
     let m : ℕ = c.args.machine in
     let place : ℕ = c.from-place.result in
-    let old : Client = c.index_mut.result.now in
+    let old : Client = c.index_mut-client.result.now in
     let now : Client = c.restart.new.self in
-    let found = client_of s.clients w.clients m place old kept.clients (omega arith) c.from-place.ensures (omega (arith, c.self.inside.clients.ok.0)) c.index_mut.ensures.value in
+    let found = client_of s.clients w.clients m place old kept.clients (omega arith) c.from-place.ensures (omega (arith, c.self.inside.clients.ok.0)) c.index_mut-client.ensures.value in
     let o : Outcome = boots_client w m (Some found.client) in
     let did = subst (λ (d : Bool). client.RestartsAs w m found.client now d o) c.if-not-booted.true (client_boots_in w s.second m found.client old now c.in_ok-booted.booted kept.second found.is_client c.in_ok-booted.ensures) in
     let stands = stands-clients s w (set s.clients place now) w.clients kept (clients_same s.clients w.clients place now found.client now kept.clients refl did.1 found.at_place) in
     on_ok_weaker c.put_impossible-then-not-booted.result (λ e. plays_as before after (record s { clients = set s.clients place now }) w.records _ (impossible w)
     (ap (boots_client w m) found.there ∙ did.0)
     (plays_one before after (record s { clients = set s.clients place now }) w w.records Impossible e stands)) c.put_impossible-then-not-booted.ensures
+
+pub returns-then-place-len-clause-lost : goal.returns-then-place-len-clause-lost
+returns-then-place-len-clause-lost c w h =
+    let s : Stored = the_view c.self.inside in
+    let kept : Stands s w = subst (λ (x : Stored). Stands x w) (sym c.self.view_is) h in
+    let m : ℕ = c.args.machine in
+    let same = zip-length IsClient s.clients w.clients kept.clients in
+    let past : length w.clients ≤ m - 2 = omega (arith, c.self.inside.clients.ok.0) in
+    let none = ap (lost_of w) (numbered-none 2 w.clients m (omega arith) past) in
+    on_ok_always c.put_impossible.result (omega (arith, none))
+
+pub returns-clause-lost : goal.returns-clause-lost
+returns-clause-lost c w h =
+    let s : Stored = the_view c.self.inside in
+    let kept : Stands s w = subst (λ (x : Stored). Stands x w) (sym c.self.view_is) h in
+    let m : ℕ = c.args.machine in
+    let place : ℕ = c.from-place.result in
+    let old : Client = c.index_mut-client.result.now in
+    let now : Client = c.restart.new.self in
+    let found = client_of s.clients w.clients m place old kept.clients (omega arith) c.from-place.ensures (omega (arith, c.self.inside.clients.ok.0)) c.index_mut-client.ensures.value in
+    let o : Outcome = boots_client w m (Some found.client) in
+    let did = subst (λ (d : Bool). client.RestartsAs w m found.client now d o) c.if-not-booted.false (client_boots_in w s.second m found.client old now c.in_ok-booted.booted kept.second found.is_client c.in_ok-booted.ensures) in
+    let lost : lost_of w (numbered 2 w.clients m) ≡ open_of found.client = ap (lost_of w) found.there ∙ lost_booted w m found.client now did in
+    let counted : c.open_calls-interrupted.result ≡ open_of found.client = c.open_calls-interrupted.ensures.exact ∙ ap open_of found.is_client in
+    let before : s.lost ≡ c.args.self.now.lost = ap (λ (x : Stored). x.lost) c.self.view_is in
+    on_ok_always c.put_restarted.result (omega arith)
+
+pub returns-then-not-booted-clause-lost : goal.returns-then-not-booted-clause-lost
+returns-then-not-booted-clause-lost c w h =
+    let s : Stored = the_view c.self.inside in
+    let kept : Stands s w = subst (λ (x : Stored). Stands x w) (sym c.self.view_is) h in
+    let m : ℕ = c.args.machine in
+    let place : ℕ = c.from-place.result in
+    let old : Client = c.index_mut-client.result.now in
+    let now : Client = c.restart.new.self in
+    let found = client_of s.clients w.clients m place old kept.clients (omega arith) c.from-place.ensures (omega (arith, c.self.inside.clients.ok.0)) c.index_mut-client.ensures.value in
+    let o : Outcome = boots_client w m (Some found.client) in
+    let did = subst (λ (d : Bool). client.RestartsAs w m found.client now d o) c.if-not-booted.true (client_boots_in w s.second m found.client old now c.in_ok-booted.booted kept.second found.is_client c.in_ok-booted.ensures) in
+    let lost : lost_of w (numbered 2 w.clients m) ≡ 0 = ap (lost_of w) found.there ∙ lost_stayed w m found.client now did in
+    let before : s.lost ≡ c.args.self.now.lost = ap (λ (x : Stored). x.lost) c.self.view_is in
+    on_ok_always c.put_impossible-then-not-booted.result (omega arith)

@@ -5,6 +5,7 @@ use Rattle.replay_model.specs.Lines.{lines_of_act}
 use Rattle.replay_model.specs.World.{Server}
 use Rattle.replay_model.specs.Step.{Outcome, boots_server}
 use Rattle.replay_server.specs.Lives as server
+use Rattle.replay_lines.specs.Page.{Page, written}
 use Rattle.replay_world.specs.Stored.{Stored}
 use Rattle.replay_world.specs.Stands.{Stands}
 use Rattle.replay_world.specs.contracts.world.World.{the_view}
@@ -15,22 +16,22 @@ use Rattle.replay_world.proofs.world.World.restart_server.Goals as goal
 pub returns-clause-played : goal.returns-clause-played
 returns-clause-played c w h =
     let s : Stored = the_view c.self.inside in
-    let before : List ℕ = c.args.out.now.items in
+    let before : Page = c.args.out.now in
     let kept : Stands s w = subst (λ (x : Stored). Stands x w) (sym c.self.view_is) h in
-    let after : List ℕ = c.put_restarted.new.out.items in
+    let after : Page = c.put_restarted.new.out in
     let now : Server = c.restart.new.self in
     let o : Outcome = boots_server w in
     let did = subst (λ (d : Bool). server.RestartsAs w w.server now d o) c.if-not-booted.false (server_boots_in w s.second s.server now c.in_ok-booted.booted kept.second kept.server c.in_ok-booted.ensures) in
     on_ok_weaker c.put_restarted.result (λ e. plays_as before after (record s { server = now }) w.records o _ did
     (plays_one before after (record s { server = now }) (record w { server = now }) w.records (Restarts 1 w.second)
-    (e ∙ ap (λ (x : ℕ). before ++ lines_of_act (Restarts 1 x)) kept.second) (stands-server s w now now kept refl))) c.put_restarted.ensures
+    (e ∙ ap (λ (x : ℕ). written before (lines_of_act (Restarts 1 x))) kept.second) (stands-server s w now now kept refl))) c.put_restarted.ensures
 
 pub returns-then-not-booted-clause-played : goal.returns-then-not-booted-clause-played
 returns-then-not-booted-clause-played c w h =
     let s : Stored = the_view c.self.inside in
-    let before : List ℕ = c.args.out.now.items in
+    let before : Page = c.args.out.now in
     let kept : Stands s w = subst (λ (x : Stored). Stands x w) (sym c.self.view_is) h in
-    let after : List ℕ = c.put_impossible.new.out.items in
+    let after : Page = c.put_impossible.new.out in
     let now : Server = c.restart.new.self in
     let o : Outcome = boots_server w in
     let did = subst (λ (d : Bool). server.RestartsAs w w.server now d o) c.if-not-booted.true (server_boots_in w s.second s.server now c.in_ok-booted.booted kept.second kept.server c.in_ok-booted.ensures) in

@@ -5,6 +5,7 @@ use Rattle.replay_model.specs.World.{Client, numbered}
 use Rattle.replay_model.specs.Step.{Outcome, impossible, with_client, skip_by}
 use Rattle.replay_client.specs.declared.machine.Skipped.{Skipped}
 use Rattle.replay_client.specs.Client as client
+use Rattle.replay_lines.specs.Page.{Page}
 use Rattle.replay_world.specs.Stored.{Stored}
 use Rattle.replay_world.specs.Stands.{Stands, IsClient}
 use Rattle.replay_world.specs.contracts.world.World.{the_view}
@@ -18,9 +19,9 @@ use Rattle.replay_world.proofs.world.World.skip.Goals as goal
 pub returns-then-place-len-clause-played : goal.returns-then-place-len-clause-played
 returns-then-place-len-clause-played c w h =
     let s : Stored = the_view c.self.inside in
-    let before : List ℕ = c.args.out.now.items in
+    let before : Page = c.args.out.now in
     let kept : Stands s w = subst (λ (x : Stored). Stands x w) (sym c.self.view_is) h in
-    let after : List ℕ = c.put_impossible.new.out.items in
+    let after : Page = c.put_impossible.new.out in
     let m : ℕ = c.args.machine in
     let same = zip-length IsClient s.clients w.clients kept.clients in
     let past : length w.clients ≤ m - 2 = omega (arith, c.self.inside.clients.ok.0) in
@@ -32,9 +33,9 @@ returns-then-place-len-clause-played c w h =
 pub returns-in_default-clause-played : goal.returns-in_default-clause-played
 returns-in_default-clause-played c w h =
     let s : Stored = the_view c.self.inside in
-    let before : List ℕ = c.args.out.now.items in
+    let before : Page = c.args.out.now in
     let kept : Stands s w = subst (λ (x : Stored). Stands x w) (sym c.self.view_is) h in
-    let after : List ℕ = c.put_impossible-in_default.new.out.items in
+    let after : Page = c.put_impossible-in_default.new.out in
     let m : ℕ = c.args.machine in
     let place : ℕ = c.from-place.result in
     let old : Client = c.index_mut.result.now in
@@ -52,9 +53,9 @@ returns-in_default-clause-played c w h =
 pub returns-clause-played : goal.returns-clause-played
 returns-clause-played c w h =
     let s : Stored = the_view c.self.inside in
-    let before : List ℕ = c.args.out.now.items in
+    let before : Page = c.args.out.now in
     let kept : Stands s w = subst (λ (x : Stored). Stands x w) (sym c.self.view_is) h in
-    let after : List ℕ = c.put_skipped.new.out.items in
+    let after : Page = c.put_skipped.new.out in
     let m : ℕ = c.args.machine in
     let place : ℕ = c.from-place.result in
     let old : Client = c.index_mut.result.now in

@@ -5,6 +5,7 @@ use Rattle.replay_model.specs.Record.{Counts, Fails, Unanswered, RefusedFor}
 use Rattle.replay_lines.specs.Counts.{counts_failure, counts_refusal}
 use Rattle.replay_client.specs.declared.told.Cause.{Cause}
 use Rattle.replay_client.specs.Told.{cause_of}
+use Rattle.replay_lines.specs.Page.{Page}
 use Rattle.replay_world.specs.Stored.{Stored}
 use Rattle.replay_world.specs.Stands.{Stands}
 use Rattle.replay_world.specs.Played.{Plays, fails}
@@ -16,8 +17,8 @@ pub returns-in-Unanswered-clause-played : goal.returns-in-Unanswered-clause-play
 returns-in-Unanswered-clause-played c w h =
     let s : Stored = the_view c.self.inside in
     let call : Call = call_of c.args.call in
-    let before : List ℕ = c.args.out.now.items in
-    let after : List ℕ = c.put_failure.new.out.items in
+    let before : Page = c.args.out.now in
+    let after : Page = c.put_failure.new.out in
     let kept : Stands s w = subst (λ (x : Stored). Stands x w) (sym c.self.view_is) h in
     on_ok_weaker c.put_failure.result (λ e. subst (λ (n : Counts). Plays before after (record s { counts = n }) w.records (fails w call (cause_of c.args.cause))) (sym c.count_failure.ensures)
     (subst (λ (x : Cause). Plays before after (record s { counts = counts_failure s.counts }) w.records (fails w call (cause_of x))) (sym c.in-Unanswered.is)
@@ -28,8 +29,8 @@ returns-in-Refused-clause-played c w h =
     let s : Stored = the_view c.self.inside in
     let call : Call = call_of c.args.call in
     let reason : ℕ = c.in-Refused.reason in
-    let before : List ℕ = c.args.out.now.items in
-    let after : List ℕ = c.put_refusal.new.out.items in
+    let before : Page = c.args.out.now in
+    let after : Page = c.put_refusal.new.out in
     let kept : Stands s w = subst (λ (x : Stored). Stands x w) (sym c.self.view_is) h in
     on_ok_weaker c.put_refusal.result (λ e. subst (λ (n : Counts). Plays before after (record s { counts = n }) w.records (fails w call (cause_of c.args.cause))) (sym c.count_refusal.ensures)
     (subst (λ (x : Cause). Plays before after (record s { counts = counts_refusal s.counts }) w.records (fails w call (cause_of x))) (sym c.in-Refused.is)

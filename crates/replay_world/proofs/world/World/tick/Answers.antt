@@ -8,6 +8,7 @@ use Rattle.replay_client.specs.declared.told.Said.TheVariants as said
 use Rattle.replay_client.specs.declared.told.Told.{Told}
 use Rattle.replay_client.specs.Told.{Says, TellsAs}
 use Rattle.replay_client.specs.Client.{TicksAs}
+use Rattle.replay_lines.specs.Page.{Page}
 use Rattle.replay_world.specs.Stored.{Stored}
 use Rattle.replay_world.specs.Stands.{Stands, IsClient}
 use Rattle.replay_world.specs.Played.{PlaysTick, is_silent}
@@ -21,7 +22,7 @@ use Rattle.replay_world.proofs.world.World.tick.Goals as goal
 use Rattle.replay_world.proofs.world.World.tick.Goals.{in-Nothing, in_default-matches}
 
 -- a tick in which nothing happens
-quietly : (before : List ℕ) (s : Stored) (w : World) (o : Outcome) → Stands s w → o ≡ nothing w → PlaysTick true before before s w.records o
+quietly : (before : Page) (s : Stored) (w : World) (o : Outcome) → Stands s w → o ≡ nothing w → PlaysTick true before before s w.records o
 quietly before s w o h e =
     record { plays = plays_as before before s w.records o (nothing w) e (plays_none before s w h); silent = sym (ap (λ (x : Outcome). is_silent x.acts) e) }
 
@@ -46,7 +47,7 @@ returns-then-place-len-clause-played c w h =
     let kept : Stands s w = subst (λ (x : Stored). Stands x w) (sym c.self.view_is) h in
     let same = zip-length IsClient s.clients w.clients kept.clients in
     let past : length w.clients ≤ m - 2 = omega (arith, c.self.inside.clients.ok.0) in
-    quietly c.args.out.now.items c.args.self.now w _ h (tick-none w m c.args.process (numbered-none 2 w.clients m (omega arith) past))
+    quietly c.args.out.now c.args.self.now w _ h (tick-none w m c.args.process (numbered-none 2 w.clients m (omega arith) past))
 
 pub returns-in_default-clause-played : goal.returns-in_default-clause-played
 returns-in_default-clause-played c w h =
@@ -62,13 +63,13 @@ returns-in_default-clause-played c w h =
     let did : by ≡ nothing w = subst (λ (d : Option Told). TicksAs w m ticked.client d by) c.in_default.is ticked.outcome in
     let same : ticked.client ≡ found.client = ticked.nobody c.in_default.is in
     let stands = stands-clients s w (set s.clients place now) w.clients kept (clients_same s.clients w.clients place now found.client ticked.client kept.clients ticked.is_client same found.at_place) in
-    quietly c.args.out.now.items (record s { clients = set s.clients place now }) w _ stands (tick-some w m c.args.process found.client found.there ∙ did)
+    quietly c.args.out.now (record s { clients = set s.clients place now }) w _ stands (tick-some w m c.args.process found.client found.there ∙ did)
 
 pub returns-clause-played : goal.returns-clause-played
 returns-clause-played c w h =
     let s : Stored = the_view c.self.inside in
-    let before : List ℕ = c.args.out.now.items in
-    let after : List ℕ = c.tell.new.out.items in
+    let before : Page = c.args.out.now in
+    let after : Page = c.tell.new.out in
     let m : ℕ = c.args.machine in
     let place : ℕ = c.from-place.result in
     let client : Client = c.index_mut-client.result.now in

@@ -4,6 +4,7 @@ use Rattle.replay_model.specs.Record.{Impossible, Withdraws}
 use Rattle.replay_model.specs.World.{Server}
 use Rattle.replay_model.specs.Step.{Outcome, withdraw_event}
 use Rattle.replay_server.specs.Lives as server
+use Rattle.replay_lines.specs.Page.{Page}
 use Rattle.replay_world.specs.Stored.{Stored}
 use Rattle.replay_world.specs.Stands.{Stands}
 use Rattle.replay_world.specs.contracts.world.World.{the_view}
@@ -14,9 +15,9 @@ use Rattle.replay_world.proofs.world.World.withdraw.Goals as goal
 pub returns-in_default-clause-played : goal.returns-in_default-clause-played
 returns-in_default-clause-played c w h =
     let s : Stored = the_view c.self.inside in
-    let before : List ℕ = c.args.out.now.items in
+    let before : Page = c.args.out.now in
     let kept : Stands s w = subst (λ (x : Stored). Stands x w) (sym c.self.view_is) h in
-    let after : List ℕ = c.put_impossible.new.out.items in
+    let after : Page = c.put_impossible.new.out in
     let now : Server = c.withdraw.new.self in
     let o : Outcome = withdraw_event w c.args.name.now in
     let did = subst (λ (d : Option ℕ). server.WithdrawsAs w now d o) c.in_default.is (withdrawn_in w s.server now c.args.name.now c.withdraw.result kept.server c.withdraw.ensures) in
@@ -27,9 +28,9 @@ returns-in_default-clause-played c w h =
 pub returns-clause-played : goal.returns-clause-played
 returns-clause-played c w h =
     let s : Stored = the_view c.self.inside in
-    let before : List ℕ = c.args.out.now.items in
+    let before : Page = c.args.out.now in
     let kept : Stands s w = subst (λ (x : Stored). Stands x w) (sym c.self.view_is) h in
-    let after : List ℕ = c.put_withdrawn.new.out.items in
+    let after : Page = c.put_withdrawn.new.out in
     let now : Server = c.withdraw.new.self in
     let o : Outcome = withdraw_event w c.args.name.now in
     let did = subst (λ (d : Option ℕ). server.WithdrawsAs w now d o) c.in-Some.is (withdrawn_in w s.server now c.args.name.now c.withdraw.result kept.server c.withdraw.ensures) in

@@ -6,6 +6,7 @@ use Rattle.replay_model.specs.Step.{Outcome, work_event, impossible}
 use Rattle.replay_server.specs.declared.step.Worked.{Worked}
 use Rattle.replay_server.specs.declared.step.Worked.TheVariants as worked
 use Rattle.replay_server.specs.Stepped.{WorksAs, KeepsIdle, StepsAs}
+use Rattle.replay_lines.specs.Page.{Page}
 use Rattle.replay_world.specs.Stored.{Stored}
 use Rattle.replay_world.specs.Stands.{Stands}
 use Rattle.replay_world.specs.contracts.world.World.{the_view}
@@ -16,8 +17,8 @@ use Rattle.replay_world.proofs.world.World.work.Goals as goal
 pub returns-in-Impossible-clause-played : goal.returns-in-Impossible-clause-played
 returns-in-Impossible-clause-played c w h =
     let s : Stored = the_view c.self.inside in
-    let before : List ℕ = c.args.out.now.items in
-    let after : List ℕ = c.put_impossible.new.out.items in
+    let before : Page = c.args.out.now in
+    let after : Page = c.put_impossible.new.out in
     let who : ℕ = c.args.worker in
     let now : Server = c.work.new.self in
     let kept : Stands s w = subst (λ (x : Stored). Stands x w) (sym c.self.view_is) h in
@@ -32,8 +33,8 @@ returns-in-Impossible-clause-played c w h =
 pub returns-in-Idle-clause-played : goal.returns-in-Idle-clause-played
 returns-in-Idle-clause-played c w h =
     let s : Stored = the_view c.self.inside in
-    let before : List ℕ = c.args.out.now.items in
-    let after : List ℕ = c.put_idle.new.out.items in
+    let before : Page = c.args.out.now in
+    let after : Page = c.put_idle.new.out in
     let who : ℕ = c.args.worker in
     let now : Server = c.work.new.self in
     let kept : Stands s w = subst (λ (x : Stored). Stands x w) (sym c.self.view_is) h in

@@ -1,0 +1,9 @@
+pub mod Asked
+pub mod Commands
+pub mod Lexing
+pub mod Options
+pub mod Spelled
+pub mod Steps
+pub mod Taken
+pub mod Twice
+pub mod WordsRead

@@ -1,0 +1,86 @@
+//! Storms: the summaries of worked storms, and a sink that fails.
+
+ghost use Rattle.std.specs.Prelude.{◌≤◌};
+ghost use Rattle.storm_model.specs.declared.options.TheConstants.{MOST_CALLS};
+
+use crate::status::Status;
+use crate::storm::run_storm;
+use ff_io::{MemorySink, Short};
+use std::alloc::{AllocError, Global};
+use std::test::Fail;
+use storm_model::StormOptions;
+
+/// The status of a storm, and what it has written, where a sink takes so many bytes in a write, and these writes fail.
+fn stormed(
+    alloc: Global,
+    options: &StormOptions,
+    most: usize,
+    failing_writes: &[u64],
+) -> Result<(Status, Vec<u8>), AllocError>
+    requires { (1 ≤ options.now.calls) × (options.now.calls ≤ MOST_CALLS) }
+{
+    let failing_writes = Vec::from_slice(alloc, failing_writes)?;
+    let mut sink = Short {
+        inner: MemorySink::new(failing_writes, Vec::with_capacity(alloc, 1024)?),
+        most: most.max(1),
+    };
+    let status = run_storm(alloc, options, &mut sink);
+    let written = Vec::from_slice(alloc, sink.inner.written())?;
+    Ok((status, written))
+}
+
+const SMALL: StormOptions = StormOptions {
+    seed: 1,
+    calls: 100,
+};
+
+pub const SMALL_SUMMARY: &[u8] = b"storm 1 100\n\
+started 95\n\
+runs 63\n\
+returned 53\n\
+signalled 0\n\
+failed 1\n\
+refused 0\n\
+lost 0\n\
+open 41\n\
+packets 610\n";
+
+#[test]
+fn a_small_storm_is_summed_up(rt: HostRuntime) -> Result<(), Fail> {
+    let (status, written) = stormed(rt.alloc(), &SMALL, 1024, &[])?;
+    assert_eq!(rt; status, Status::Ok);
+    assert_eq!(rt; written.as_slice(), SMALL_SUMMARY);
+    Ok(())
+}
+
+const LARGE: StormOptions = StormOptions {
+    seed: 7,
+    calls: 20_000,
+};
+
+const LARGE_SUMMARY: &[u8] = b"storm 7 20000\n\
+started 13220\n\
+runs 12604\n\
+returned 12099\n\
+signalled 0\n\
+failed 453\n\
+refused 431\n\
+lost 194\n\
+open 43\n\
+packets 118818\n";
+
+#[test]
+fn a_storm_of_twenty_thousand_calls_is_summed_up(rt: HostRuntime) -> Result<(), Fail> {
+    let (status, written) = stormed(rt.alloc(), &LARGE, 1024, &[])?;
+    assert_eq!(rt; status, Status::Ok);
+    assert_eq!(rt; written.as_slice(), LARGE_SUMMARY);
+    Ok(())
+}
+
+#[test]
+fn a_sink_that_fails_has_a_front_of_the_summary(rt: HostRuntime) -> Result<(), Fail> {
+    let (status, written) = stormed(rt.alloc(), &SMALL, 7, &[3])?;
+    assert_eq!(rt; status, Status::WriteFault);
+    assert_eq!(rt; written.as_slice(), b"storm 1 100\nst".as_slice());
+    Ok(())
+}

@@ -1,0 +1,70 @@
+//! The summary of a storm.
+
+ghost use Rattle.std.specs.Prelude.{◌≡◌, ◌++◌, OnOk};
+ghost use Rattle.storm_model.specs.Summary.{summary_text};
+
+use replay_lines::Print;
+use std::alloc::AllocError;
+use std::marker::Model;
+use storm_model::StormOptions;
+
+/// What became of the calls of a storm, and how many packets were sent.
+#[derive(Drop)]
+pub struct Summary {
+    /// The accepted starts of calls.
+    pub started: u64,
+    /// The runs of bodies.
+    pub runs: u64,
+    /// The calls that returned without a signal.
+    pub returned: u64,
+    /// The calls that returned by a signal.
+    pub signalled: u64,
+    /// The calls that nobody answered.
+    pub failed: u64,
+    /// The calls that the server refused.
+    pub refused: u64,
+    /// The calls that were open at their client's restart.
+    pub lost: u64,
+    /// The calls that are open at the end.
+    pub still_open: u64,
+    /// The packets that were sent.
+    pub packets: u64,
+}
+
+impl Model for Summary {
+    ghost use Rattle.storm_model.specs.Summary.{Summary};
+
+    ghost Value = { Summary };
+
+    ghost view = { λ s. record {
+      started = s.started;
+      runs = s.runs;
+      returned = s.returned;
+      signalled = s.signalled;
+      failed = s.failed;
+      refused = s.refused;
+      lost = s.lost;
+      still_open = s.still_open;
+      packets = s.packets;
+    } };
+}
+
+/// Appends the lines of the summary of a storm.
+pub fn put_summary(
+    out: &mut Vec<u8>,
+    options: &StormOptions,
+    summary: &Summary,
+) -> Result<(), AllocError>
+    ensures { OnOk result (out.new.items ≡ out.old.items ++ summary_text options.now.seed options.now.calls summary.now) }
+{
+    writeln!(out, "storm {} {}", options.seed, options.calls)?;
+    writeln!(out, "started {}", summary.started)?;
+    writeln!(out, "runs {}", summary.runs)?;
+    writeln!(out, "returned {}", summary.returned)?;
+    writeln!(out, "signalled {}", summary.signalled)?;
+    writeln!(out, "failed {}", summary.failed)?;
+    writeln!(out, "refused {}", summary.refused)?;
+    writeln!(out, "lost {}", summary.lost)?;
+    writeln!(out, "open {}", summary.still_open)?;
+    writeln!(out, "packets {}", summary.packets)
+}
