@@ -121,7 +121,7 @@ calls_named p q a word rest is sound =
     }
 
 -- with its text in one word
-calls_with_text : (p q : ValueParser) (a v word : Text) (rest : List Text) → word ≡ codes "--calls=" ++ v → accepts false q v ≡ true 
+calls_with_text : (p q : ValueParser) (a v word : Text) (rest : List Text) → word ≡ codes "--calls=" ++ v → accepts false q v ≡ true
     → Sound p q (stands (seed_row p a ∷ calls_row q v ∷ []) None) rest → More (λ (t : Text). accepts false q t ≡ true) (codes "calls") (word ∷ rest)
 calls_with_text p q a v word rest is fits sound = record {
   text = v;
@@ -200,7 +200,7 @@ seed_named p q a word rest is sound =
     }
 
 -- with its text in one word
-seed_with_text : (p q : ValueParser) (a v word : Text) (rest : List Text) → word ≡ codes "--seed=" ++ v → accepts false p v ≡ true 
+seed_with_text : (p q : ValueParser) (a v word : Text) (rest : List Text) → word ≡ codes "--seed=" ++ v → accepts false p v ≡ true
     → Sound p q (stands (calls_row q a ∷ seed_row p v ∷ []) None) rest → More (λ (t : Text). accepts false p t ≡ true) (codes "seed") (word ∷ rest)
 seed_with_text p q a v word rest is fits sound = record {
   text = v;

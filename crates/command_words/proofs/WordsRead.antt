@@ -154,7 +154,7 @@ idle_word p q rows pending word sound = by (form word)
         subst (λ (t : Text). Read t) (sym is) (idle_long p q rows pending x xs (subst (λ (t : Text). turn_fault (shape p q) [] (stands rows pending) t ≡ []) is sound))
     by (Short x xs is e) =
         absurd (idle_short p q rows pending x xs e
-          (subst (λ (t : Text). turn_fault (shape p q) [] (stands rows pending) t ≡ []) is sound))
+        (subst (λ (t : Text). turn_fault (shape p q) [] (stands rows pending) t ≡ []) is sound))
     by (Dash is) =
         let bad : UnknownArgument ∷ [] ≡ [] = subst (λ (t : Text). turn_fault (shape p q) [] (stands rows pending) t ≡ []) is sound in
         cc
@@ -192,7 +192,7 @@ seed_word p q rows word sound = by (form word)
         subst (λ (t : Text). Awaited p q rows (codes "seed") t) (sym is) (read (45 ∷ 45 ∷ x ∷ xs) fault (waiting_long p q rows (codes "seed") x xs fault))
     by (Short x xs is e) =
         subst (λ (t : Text). Awaited p q rows (codes "seed") t) (sym is) (short x xs e
-          (subst (λ (t : Text). turn_fault (shape p q) [] (waits rows (codes "seed")) t ≡ []) is sound) (chars (x ∷ xs)) refl)
+        (subst (λ (t : Text). turn_fault (shape p q) [] (waits rows (codes "seed")) t ≡ []) is sound) (chars (x ∷ xs)) refl)
     by (Dash is) = subst (λ (t : Text). Awaited p q rows (codes "seed") t) (sym is) (Given refl)
     by (Plain v) = Given (rw (v.0, v.1, v.1) refl)
 
@@ -221,7 +221,7 @@ calls_word p q rows word sound = by (form word)
         subst (λ (t : Text). Awaited p q rows (codes "calls") t) (sym is) (read (45 ∷ 45 ∷ x ∷ xs) fault (waiting_long p q rows (codes "calls") x xs fault))
     by (Short x xs is e) =
         subst (λ (t : Text). Awaited p q rows (codes "calls") t) (sym is) (short x xs e
-          (subst (λ (t : Text). turn_fault (shape p q) [] (waits rows (codes "calls")) t ≡ []) is sound) (chars (x ∷ xs)) refl)
+        (subst (λ (t : Text). turn_fault (shape p q) [] (waits rows (codes "calls")) t ≡ []) is sound) (chars (x ∷ xs)) refl)
     by (Dash is) = subst (λ (t : Text). Awaited p q rows (codes "calls") t) (sym is) (Given refl)
     by (Plain v) = Given (rw (v.0, v.1, v.1) refl)
 
