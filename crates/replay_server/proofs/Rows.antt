@@ -1,26 +1,37 @@
 -- Steps that are rows' steps.
-use Rattle.std.proofs.Common.{◌≡◌, ℕ, List, ◌++◌, Option, Bool, true, false, ap, sym, subst, ◌∙◌}
+use Rattle.std.proofs.Common.{◌≡◌, ℕ, List, ◌++◌, Option, Bool, true, false, ap, sym, subst, ◌∙◌, refl}
 use Rattle.std.specs.Prelude.{unwrap_or}
 use Rattle.std.proofs.lemmas.Bool.{cond-true, cond-false}
 use Rattle.rpc_header.specs.declared.Kind.{Kind}
 use Rattle.call_rules.specs.Packet.{Packet}
 use Rattle.call_rules.specs.Entry.{Entry, Word, word_of, is_same_word, judge}
 use Rattle.call_rules.specs.declared.entry.Judged.{Judged}
+use Rattle.call_rules.specs.declared.worker.Did.TheVariants as did
+use Rattle.call_rules.specs.declared.worker.Unfit.{Unfit}
 use Rattle.call_rules.specs.declared.worker.Unfit.TheVariants as unfit
 use Rattle.call_rules.specs.Worker.{Asked, admits, on_due, drops, on_idle, on_kind, on_claimed, on_judged_claim}
 use Rattle.call_rules.specs.Worker as rules
 use Rattle.replay_server.specs.Rules.{Keeps, Exchanges}
+use Rattle.replay_server.specs.Stepped.{StandsFor}
+use Rattle.replay_server.specs.Worker.{worker_after}
+use Rattle.replay_server.specs.declared.step.Adds.{Adds}
+use Rattle.replay_server.specs.declared.step.Adds.TheVariants as added
 use Rattle.replay_server.specs.declared.step.Step.{Step}
 
-pub keeps_as : (a b : rules.Step) (step : Step) → a ≡ b → Keeps a step → Keeps b step
-keeps_as a b step e h = subst (λ (row : rules.Step). Keeps row step) e h
+pub keeps_as : (p : Packet) (a b : rules.Step) (step : Step) → a ≡ b → Keeps p a step → Keeps p b step
+keeps_as p a b step e h = subst (λ (row : rules.Step). Keeps p row step) e h
 
-pub exchanges_as : (a b : rules.Step) (old new : Entry) (step : Step) → a ≡ b → Exchanges a old new step → Exchanges b old new step
-exchanges_as a b old new step e h = subst (λ (row : rules.Step). Exchanges row old new step) e h
+pub exchanges_as : (p : Packet) (a b : rules.Step) (old new : Entry) (step : Step) → a ≡ b → Exchanges p a old new step → Exchanges p b old new step
+exchanges_as p a b old new step e h = subst (λ (row : rules.Step). Exchanges p row old new step) e h
+
+-- a packet was dropped
+pub keeps_dropped : (p : Packet) (why : Unfit) (step : Step) → worker_after p step.next ≡ rules.Resting → step.did ≡ did.Drops why → step.adds ≡ added.Nothing → Keeps p (drops why) step
+keeps_dropped p why step worker what nothing =
+    record { worker = worker; entry = refl; did = what; adds = subst (λ (a : Adds). StandsFor a rules.Nothing) (sym nothing) refl }
 
 -- a row that leaves the entry
-pub keeps_entry : (row : rules.Step) (e : Entry) (step : Step) → Keeps row step → Exchanges row e e step
-keeps_entry row e step h =
+pub keeps_entry : (p : Packet) (row : rules.Step) (e : Entry) (step : Step) → Keeps p row step → Exchanges p row e e step
+keeps_entry p row e step h =
     record { worker = h.worker; entry = ap (λ (o : Option Entry). unwrap_or o e) (sym h.entry); did = h.did; adds = h.adds }
 
 -- an idle worker's row, by the packet's kind

@@ -1,4 +1,5 @@
 pub mod Entry
+pub mod GoesOn
 pub mod Lives
 pub mod Rules
 pub mod Service

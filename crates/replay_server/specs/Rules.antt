@@ -6,22 +6,22 @@ use Rattle.call_rules.specs.Worker as rules
 use Rattle.replay_model.specs.Service.{served}
 use Rattle.replay_model.specs.World.{has_buffer}
 use Rattle.replay_server.specs.declared.step.Step.{Step}
-use Rattle.replay_server.specs.declared.worker.Stage.{Stage}
-use Rattle.replay_server.specs.declared.worker.Stage.TheVariants as stage
+use Rattle.replay_server.specs.declared.stage.Stage.{Stage}
+use Rattle.replay_server.specs.declared.stage.Stage.TheVariants as stage
 use Rattle.replay_server.specs.Service.{answer_of}
 use Rattle.replay_server.specs.Stepped.{StandsFor}
-use Rattle.replay_server.specs.Worker.{arguments_in}
+use Rattle.replay_server.specs.Worker.{arguments_in, worker_after}
 
--- the step is the row's, which leaves the entry
-pub record Keeps (row : rules.Step) (step : Step) : Type 0 where
-  pub worker : step.worker ≡ row.worker
+-- the step of a worker whose packet is p is the row's, which leaves the entry
+pub record Keeps (p : Packet) (row : rules.Step) (step : Step) : Type 0 where
+  pub worker : worker_after p step.next ≡ row.worker
   pub entry : row.entry ≡ None
   pub did : step.did ≡ row.did
   pub adds : StandsFor step.adds row.adds
 
--- the step is the row's, and so is the entry after it
-pub record Exchanges (row : rules.Step) (old new : Entry) (step : Step) : Type 0 where
-  pub worker : step.worker ≡ row.worker
+-- the step of a worker whose packet is p is the row's, and so is the entry after it
+pub record Exchanges (p : Packet) (row : rules.Step) (old new : Entry) (step : Step) : Type 0 where
+  pub worker : worker_after p step.next ≡ row.worker
   pub entry : new ≡ unwrap_or row.entry old
   pub did : step.did ≡ row.did
   pub adds : StandsFor step.adds row.adds

@@ -3,11 +3,10 @@ use Rattle.std.specs.Prelude.{ℕ, List, Option, Some, None}
 use Rattle.call_rules.specs.Packet.{Packet}
 use Rattle.call_rules.specs.Entry.{word_seen}
 use Rattle.call_rules.specs.Worker as rules
-use Rattle.replay_server.specs.declared.worker.Arguments.{Arguments}
-use Rattle.replay_server.specs.declared.worker.Arguments.TheVariants as arguments
-use Rattle.replay_server.specs.declared.worker.Stage.{Stage}
-use Rattle.replay_server.specs.declared.worker.Stage.TheVariants as stage
-use Rattle.replay_server.specs.declared.worker.Task.{Task}
+use Rattle.replay_server.specs.declared.stage.Arguments.{Arguments}
+use Rattle.replay_server.specs.declared.stage.Arguments.TheVariants as arguments
+use Rattle.replay_server.specs.declared.stage.Stage.{Stage}
+use Rattle.replay_server.specs.declared.stage.Stage.TheVariants as stage
 use Rattle.replay_server.specs.Service.{answer_of}
 
 -- the arguments of an admitted call, whose carrier has this data
@@ -23,6 +22,11 @@ worker_at p (stage.Admitted arguments) = rules.Admitted p (arguments_in argument
 worker_at p (stage.Ran answer) = rules.Ran p (answer_of answer)
 worker_at p stage.Fetched = rules.Fetched p
 
-abbrev pub worker_of : Option Task → rules.Worker
-worker_of None = rules.Resting
-worker_of (Some task) = worker_at task.carrier task.stage
+-- a worker that is to do this next with its packet, or gives it back
+abbrev pub worker_after : Packet → Option Stage → rules.Worker
+worker_after p None = rules.Resting
+worker_after p (Some s) = worker_at p s
+
+abbrev pub worker_of : Option Packet → Stage → rules.Worker
+worker_of None s = rules.Resting
+worker_of (Some p) s = worker_at p s

@@ -1,11 +1,13 @@
 //! What the server keeps for each activity.
 
-ghost use Rattle.std.specs.Prelude.{◌≡◌};
+ghost use Rattle.std.specs.Prelude.{◌≡◌, ◌<◌, Some, None, length, slice_get, slice_set, MatchOption, if◌then◌else◌};
 ghost use Rattle.call_rules.specs.Entry as rules;
+ghost use Rattle.replay_model.specs.World as model;
 
 use crate::texts::{Answer, Gathering};
 use call_rules::{Phase, Seen};
-use rpc_header::CallNumber;
+use replay_model::limits::{FIRST_CLIENT, LAST_CLIENT, LAST_PROCESS};
+use rpc_header::{Activity, CallNumber};
 use std::marker::Model;
 
 /// What the server keeps of the last call of an activity.
@@ -89,5 +91,34 @@ impl Entry {
             EntryState::Sending { number, .. } => (Phase::Sending, *number),
         };
         Seen { phase, number }
+    }
+}
+
+/// The place of an activity's entry among these, where it has one there.
+pub fn place_in(entries: &[Entry], activity: Activity) -> Option<usize>
+    ensures { MatchOption result
+        ((model.entry_at entries.now activity ≡ None) × ((e : rules.Entry) → model.with_entry entries.now activity e ≡ entries.now))
+        (λ place. (place < length entries.now) × (model.entry_at entries.now activity ≡ slice_get entries.now place)
+        × ((e : rules.Entry) → model.with_entry entries.now activity e ≡ slice_set entries.now place e)) }
+{
+    let place = entry_place(activity)?;
+    if place < entries.len() {
+        Some(place)
+    } else {
+        None
+    }
+}
+
+/// The place of an activity's entry, where it has one.
+fn entry_place(activity: Activity) -> Option<usize>
+    ensures { result ≡ (if model.is_entry_activity activity then Some (model.entry_place activity) else None) }
+{
+    let Activity { machine, process } = activity;
+    let is_client = u32::from(FIRST_CLIENT) <= machine && machine <= u32::from(LAST_CLIENT);
+    if is_client && 1 <= process && process <= u16::from(LAST_PROCESS) {
+        let client = (machine - u32::from(FIRST_CLIENT)) as usize;
+        Some(usize::from(LAST_PROCESS) * client + usize::from(process - 1))
+    } else {
+        None
     }
 }

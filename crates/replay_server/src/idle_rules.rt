@@ -12,8 +12,8 @@ ghost use Rattle.replay_model.specs.Step.{asked_of};
 ghost use Rattle.replay_server.specs.Rules.{Keeps};
 
 use crate::answers::{ack, bound, reject};
+use crate::stage::Stage;
 use crate::step::{Adds, Step, drops, rests};
-use crate::worker::{Stage, Worker};
 use binder::{Exports, Verdict, read_bind_data};
 use call_rules::{Did, Judged, Seen, Unfit, judge};
 use replay_packets::Packet;
@@ -25,10 +25,10 @@ pub fn on_idle(
     alloc: Global,
     exports: &Exports,
     seen: Option<Seen>,
-    packet: Packet,
+    packet: &Packet,
 ) -> Result<Step, AllocError>
     ensures { IfOk result (λ step. (e : Option Entry) → option_map word_of e ≡ option_map word_seen seen
-        → Keeps (rules.on_idle (asked_of exports.now.rows packet) e packet) step) }
+        → Keeps packet.now (rules.on_idle (asked_of exports.now.rows packet.now) e packet.now) step) }
 {
     let kind = packet.header().kind;
     on_kind(alloc, kind, exports, seen, packet)
@@ -40,10 +40,10 @@ fn on_kind(
     kind: Kind,
     exports: &Exports,
     seen: Option<Seen>,
-    packet: Packet,
+    packet: &Packet,
 ) -> Result<Step, AllocError>
     ensures { IfOk result (λ step. (e : Option Entry) → option_map word_of e ≡ option_map word_seen seen
-        → Keeps (rules.on_kind kind (asked_of exports.now.rows packet) e packet) step) }
+        → Keeps packet.now (rules.on_kind kind (asked_of exports.now.rows packet.now) e packet.now) step) }
 {
     match kind {
         Kind::Bind => on_bind(alloc, exports, packet),
@@ -58,14 +58,14 @@ fn on_kind(
 }
 
 /// A Bind: the answer to the name that it asks for.
-fn on_bind(alloc: Global, exports: &Exports, packet: Packet) -> Result<Step, AllocError>
-    ensures { IfOk result (Keeps (rules.on_bind (asked_of exports.now.rows packet).named packet)) }
+fn on_bind(alloc: Global, exports: &Exports, packet: &Packet) -> Result<Step, AllocError>
+    ensures { IfOk result (Keeps packet.now (rules.on_bind (asked_of exports.now.rows packet.now).named packet.now)) }
 {
     let Some(name) = read_bind_data(packet.payload()) else {
         return Ok(drops(Unfit::BadName));
     };
     let found = exports.look_up(&name);
-    let answer = bound(alloc, &packet, found)?;
+    let answer = bound(alloc, packet, found)?;
     Ok(rests(Did::Answers, Adds::Packet(answer)))
 }
 
@@ -74,10 +74,10 @@ fn on_call(
     alloc: Global,
     exports: &Exports,
     seen: Option<Seen>,
-    packet: Packet,
+    packet: &Packet,
 ) -> Result<Step, AllocError>
     ensures { IfOk result (λ step. (e : Option Entry) → option_map word_of e ≡ option_map word_seen seen
-        → Keeps (rules.on_call (asked_of exports.now.rows packet).refused e packet) step) }
+        → Keeps packet.now (rules.on_call (asked_of exports.now.rows packet.now).refused e packet.now) step) }
 {
     let Header {
         export,
@@ -86,7 +86,7 @@ fn on_call(
     } = *packet.header();
     match refusal(exports.accepts(export, procedure)) {
         Some(reason) => {
-            let answer = reject(alloc, &packet, reason)?;
+            let answer = reject(alloc, packet, reason)?;
             Ok(rests(Did::Rejects(reason), Adds::Rejection(answer)))
         }
         None => on_accepted(alloc, seen, packet),
@@ -106,9 +106,9 @@ fn refusal(verdict: Verdict) -> Option<u8>
 }
 
 /// A packet of an accepted call, by what is seen of its entry, if there is one.
-fn on_accepted(alloc: Global, seen: Option<Seen>, packet: Packet) -> Result<Step, AllocError>
+fn on_accepted(alloc: Global, seen: Option<Seen>, packet: &Packet) -> Result<Step, AllocError>
     ensures { IfOk result (λ step. (e : Option Entry) → option_map word_of e ≡ option_map word_seen seen
-        → Keeps (rules.on_accepted e packet) step) }
+        → Keeps packet.now (rules.on_accepted e packet.now) step) }
 {
     match seen {
         None => Ok(drops(Unfit::Full)),
@@ -120,8 +120,8 @@ fn on_accepted(alloc: Global, seen: Option<Seen>, packet: Packet) -> Result<Step
 }
 
 /// A packet by its judgement.
-fn on_judged(alloc: Global, judged: Judged, seen: Seen, packet: Packet) -> Result<Step, AllocError>
-    ensures { IfOk result (Keeps (rules.on_judged judged (word_seen seen) packet)) }
+fn on_judged(alloc: Global, judged: Judged, seen: Seen, packet: &Packet) -> Result<Step, AllocError>
+    ensures { IfOk result (Keeps packet.now (rules.on_judged judged (word_seen seen) packet.now)) }
 {
     match judged {
         Judged::Older => Ok(drops(Unfit::Older)),
@@ -130,11 +130,11 @@ fn on_judged(alloc: Global, judged: Judged, seen: Seen, packet: Packet) -> Resul
         Judged::Unknown => Ok(drops(Unfit::Unknown)),
         Judged::Skipped => Ok(drops(Unfit::Skipped)),
         Judged::Ack => {
-            let answer = ack(alloc, &packet)?;
+            let answer = ack(alloc, packet)?;
             Ok(rests(Did::Acks, Adds::Packet(answer)))
         }
         Judged::Admit | Judged::Begin | Judged::More | Judged::Fetch => Ok(Step {
-            worker: Worker::at(packet, Stage::Claimed(seen)),
+            next: Some(Stage::Claimed(seen)),
             did: Did::Claims,
             adds: Adds::Nothing,
         }),

@@ -8,6 +8,7 @@ mod entry;
 mod idle_rules;
 mod machine;
 mod service;
+mod stage;
 mod step;
 mod task_rules;
 mod texts;

@@ -12,16 +12,13 @@ ghost use Rattle.replay_model.specs.World.{World, numbered};
 ghost use Rattle.replay_model.specs.Step as step;
 ghost use Rattle.replay_server.specs.Lives.{Exporting};
 
-use crate::entry::Entry;
+use crate::entry::{Entry, place_in};
 use crate::idle_rules::on_idle;
 use crate::step::{Step, Stepped, Worked};
-use crate::task_rules::on_task;
-use crate::worker::{Task, Worker};
+use crate::worker::Worker;
 use binder::{ExportFault, Exports, InterfaceName, Name, read_name};
 use call_rules::Seen;
-use replay_model::limits::{
-    CLIENTS, FIRST_CLIENT, LAST_CLIENT, LAST_PROCESS, LAST_WORKER, READY_CELLS, SERVICE_PROCEDURES,
-};
+use replay_model::limits::{CLIENTS, LAST_PROCESS, LAST_WORKER, READY_CELLS, SERVICE_PROCEDURES};
 use replay_packets::{Arrived, Packet, test_name};
 use rpc_header::{Activity, Export};
 use std::alloc::{AllocError, Global};
@@ -62,10 +59,10 @@ impl Model for ServerMachine {
 
 impl ServerMachine {
     ghost use Rattle.replay_packets.specs.Packet.{packet_of};
+    ghost use Rattle.replay_server.specs.GoesOn.{GoesOnAt};
     ghost use Rattle.replay_server.specs.Lives.{ExportsAs, WithdrawsAs, RestartsAs};
     ghost use Rattle.replay_server.specs.Rules.{Keeps};
-    ghost use Rattle.replay_server.specs.Stepped.{WorksAs, StepsAs, KeepsIdle};
-    ghost use Rattle.replay_server.specs.Worker.{worker_of, worker_at};
+    ghost use Rattle.replay_server.specs.Stepped.{WorksAs, KeepsIdle};
 
     /// A server with these numbers of small and of long buffers that boots in a second. It exports the test
     /// service. `Err` only where memory is short.
@@ -100,8 +97,8 @@ impl ServerMachine {
         Ok(true)
     }
 
-    /// One step of a worker. Workers are numbered from 1. `Err` only where memory is short: then the packet that the
-    /// worker had in hand is lost.
+    /// One step of a worker. Workers are numbered from 1. `Err` only where memory is short: then what the worker was to
+    /// do next is lost, or the ready packet that it took.
     pub fn work(&mut self, alloc: Global, number: u8) -> Result<Worked, AllocError>
         requires { 1 ≤ number }
         ensures outcome { IfOk result (λ worked. (w : World) → WorksAs (record w { server = self.old }) number self.new worked
@@ -112,8 +109,9 @@ impl ServerMachine {
         if place >= self.worker_count() {
             return Ok(Worked::Impossible);
         }
-        match self.take_task(place) {
-            Some(task) => Ok(Worked::Step(self.go_on(alloc, place, task)?)),
+        let done = self.go_on(alloc, place)?;
+        match done {
+            Some(stepped) => Ok(Worked::Step(stepped)),
             None => self.claim_next(alloc, place),
         }
     }
@@ -154,26 +152,6 @@ impl ServerMachine {
         Ok(true)
     }
 
-    /// A worker with a task does what is next. The machine has its task no more.
-    fn go_on(&mut self, alloc: Global, place: usize, task: Task) -> Result<Stepped, AllocError>
-        requires { place < length self.old.workers }
-        ensures { IfOk result (λ stepped. (w : World) → StepsAs w (place + 1) self.new stepped
-            (step.work_event (record w { server = self.old }) (place + 1) (Some (worker_at task.carrier task.stage)))) }
-    {
-        let call = task.carrier.header().call;
-        let mut entry = self.take_entry(call.activity);
-        let mut total = self.total();
-        let step = on_task(alloc, &mut total, task, &mut entry)?;
-        self.put_entry(call.activity, entry);
-        self.put_total(total);
-        self.put_worker(place, step.worker);
-        Ok(Stepped {
-            number: call.number,
-            did: step.did,
-            adds: step.adds,
-        })
-    }
-
     /// An idle worker takes the oldest ready packet.
     fn claim_next(&mut self, alloc: Global, place: usize) -> Result<Worked, AllocError>
         requires { place < length self.old.workers }
@@ -184,20 +162,20 @@ impl ServerMachine {
         let Some(packet) = self.next_ready() else {
             return Ok(Worked::Idle);
         };
-        let call = packet.header().call;
-        let step = self.claim(alloc, packet)?;
-        self.put_worker(place, step.worker);
+        let number = packet.header().call.number;
+        let step = self.claim(alloc, &packet)?;
+        self.put_worker(place, Worker::after(packet, step.next));
         Ok(Worked::Step(Stepped {
-            number: call.number,
+            number,
             did: step.did,
             adds: step.adds,
         }))
     }
 
     /// The step of an idle worker that has taken a packet.
-    fn claim(&self, alloc: Global, packet: Packet) -> Result<Step, AllocError>
-        ensures { IfOk result (Keeps (rules.on_idle (step.asked_of self.now.exports.rows packet)
-            (model.entry_at self.now.entries packet.header.call.activity) packet)) }
+    fn claim(&self, alloc: Global, packet: &Packet) -> Result<Step, AllocError>
+        ensures { IfOk result (Keeps packet.now (rules.on_idle (step.asked_of self.now.exports.rows packet.now)
+            (model.entry_at self.now.entries packet.now.header.call.activity) packet.now)) }
     {
         let seen = self.seen(packet.header().call.activity);
         on_idle(alloc, &self.exports, seen, packet)
@@ -209,26 +187,12 @@ impl ServerMachine {
         self.workers.len()
     }
 
-    /// The total of the test service.
-    fn total(&self) -> u32
-        ensures { result ≡ self.now.total }
-    {
-        self.total
-    }
-
-    fn put_total(&mut self, total: u32)
-        ensures { self.new ≡ record self.old { total = total } }
-    {
-        self.total = total;
-    }
-
-    /// Takes a worker's task out, and leaves it idle.
-    fn take_task(&mut self, place: usize) -> Option<Task>
+    /// A worker with a packet does what is next. An idle one does nothing.
+    fn go_on(&mut self, alloc: Global, place: usize) -> Result<Option<Stepped>, AllocError>
         requires { place < length self.old.workers }
-        ensures task { slice_get self.old.workers place ≡ Some (worker_of result) }
-        ensures idle { self.new ≡ record self.old { workers = slice_set self.old.workers place rules.Resting } }
+        ensures { IfOk result (GoesOnAt place self.old self.new) }
     {
-        self.workers[place].take()
+        self.workers[place].go_on(alloc, &mut self.total, &mut self.entries)
     }
 
     fn put_worker(&mut self, place: usize, worker: Worker)
@@ -250,36 +214,8 @@ impl ServerMachine {
     fn seen(&self, activity: Activity) -> Option<Seen>
         ensures { option_map entry.word_of (model.entry_at self.now.entries activity) ≡ option_map entry.word_seen result }
     {
-        let place = entry_place(activity)?;
-        if place >= self.entries.len() {
-            return None;
-        }
+        let place = place_in(self.entries.as_slice(), activity)?;
         Some(self.entries[place].seen())
-    }
-
-    /// Takes an activity's entry out, and leaves an empty one. Where there is none, an empty one is given.
-    fn take_entry(&mut self, activity: Activity) -> Entry
-        ensures entry { result ≡ unwrap_or (model.entry_at self.old.entries activity) entry.Empty }
-        ensures empty { self.new ≡ record self.old { entries = model.with_entry self.old.entries activity entry.Empty } }
-    {
-        let Some(place) = entry_place(activity) else {
-            return Entry::empty();
-        };
-        if place >= self.entries.len() {
-            return Entry::empty();
-        }
-        std::mem::replace(&mut self.entries[place], Entry::empty())
-    }
-
-    fn put_entry(&mut self, activity: Activity, entry: Entry)
-        ensures { self.new ≡ record self.old { entries = model.with_entry self.old.entries activity entry } }
-    {
-        let Some(place) = entry_place(activity) else {
-            return;
-        };
-        if place < self.entries.len() {
-            self.entries[place] = entry;
-        }
     }
 }
 
@@ -344,18 +280,4 @@ fn boot_workers(alloc: Global) -> Result<Vec<Worker>, AllocError>
         workers.push(Worker::idle())?;
     }
     Ok(workers)
-}
-
-/// The place of an activity's entry, where it has one.
-fn entry_place(activity: Activity) -> Option<usize>
-    ensures { result ≡ (if model.is_entry_activity activity then Some (model.entry_place activity) else None) }
-{
-    let Activity { machine, process } = activity;
-    let is_client = u32::from(FIRST_CLIENT) <= machine && machine <= u32::from(LAST_CLIENT);
-    if is_client && 1 <= process && process <= u16::from(LAST_PROCESS) {
-        let client = (machine - u32::from(FIRST_CLIENT)) as usize;
-        Some(usize::from(LAST_PROCESS) * client + usize::from(process - 1))
-    } else {
-        None
-    }
 }

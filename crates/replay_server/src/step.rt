@@ -1,10 +1,11 @@
 //! What a worker's step was: one value, from where it is made to where it is told.
 
 ghost use Rattle.std.specs.Prelude.{◌≡◌};
+ghost use Rattle.call_rules.specs.Packet.{Packet};
 ghost use Rattle.call_rules.specs.Worker as rules;
-ghost use Rattle.replay_server.specs.Rules.{Keeps};
+ghost use Rattle.replay_server.specs.Worker.{worker_after};
 
-use crate::worker::Worker;
+use crate::stage::Stage;
 use call_rules::{Did, Unfit};
 use replay_model::RunLine;
 use replay_packets::Outgoing;
@@ -22,10 +23,11 @@ pub enum Adds {
     Rejection(Outgoing),
 }
 
-/// A step of a worker, as the rules have it: the worker after it, what it did, and what that adds.
+/// A step of a worker, as the rules have it: what the worker is to do next with its carrier, or `None` where it gives
+/// its packet back; what it did, and what that adds.
 #[derive(Drop)]
 pub struct Step {
-    pub worker: Worker,
+    pub next: Option<Stage>,
     pub did: Did,
     pub adds: Adds,
 }
@@ -51,12 +53,12 @@ pub enum Worked {
 
 /// The worker gives its packet back, and is idle.
 pub fn rests(did: Did, adds: Adds) -> Step
-    ensures worker { result.worker ≡ rules.Resting }
+    ensures worker { (p : Packet) → worker_after p result.next ≡ rules.Resting }
     ensures did { result.did ≡ did }
     ensures adds { result.adds ≡ adds }
 {
     Step {
-        worker: Worker::idle(),
+        next: None,
         did,
         adds,
     }
@@ -64,7 +66,9 @@ pub fn rests(did: Did, adds: Adds) -> Step
 
 /// The worker gives its packet back, and nothing else changes.
 pub fn drops(why: Unfit) -> Step
-    ensures { Keeps (rules.drops why) result }
+    ensures worker { (p : Packet) → worker_after p result.next ≡ rules.Resting }
+    ensures did { result.did ≡ Did.Drops why }
+    ensures adds { result.adds ≡ Adds.Nothing }
 {
     rests(Did::Drops(why), Adds::Nothing)
 }

@@ -10,14 +10,14 @@ ghost use Rattle.replay_model.specs.World.{has_buffer};
 ghost use Rattle.replay_server.specs.Rules.{Keeps, Exchanges, row_at, total_at};
 ghost use Rattle.replay_server.specs.Entry.{entry_of};
 ghost use Rattle.replay_server.specs.Service.{answer_of};
-ghost use Rattle.replay_server.specs.Worker.{arguments_in};
+ghost use Rattle.replay_server.specs.Worker.{arguments_in, worker_after};
 
 use crate::answers::{ack, reply_piece};
 use crate::entry::{Entry, EntryState};
 use crate::service::serve;
+use crate::stage::{Arguments, Stage};
 use crate::step::{Adds, Step, drops, rests};
 use crate::texts::{Answer, Gathering};
-use crate::worker::{Arguments, Stage, Task, Worker};
 use call_rules::{Did, Judged, Seen, Unfit, judge};
 use fragments::count;
 use replay_model::RunLine;
@@ -29,13 +29,13 @@ use std::alloc::{AllocError, Global};
 pub fn on_task(
     alloc: Global,
     total: &mut u32,
-    task: Task,
+    carrier: &Packet,
+    stage: Stage,
     entry: &mut Entry,
 ) -> Result<Step, AllocError>
-    ensures step { IfOk result (Exchanges (row_at task.carrier task.stage total.old entry.old) entry.old entry.new) }
-    ensures total { OnOk result (total.new ≡ total_at task.carrier task.stage total.old) }
+    ensures step { IfOk result (Exchanges carrier.now (row_at carrier.now stage total.old entry.old) entry.old entry.new) }
+    ensures total { OnOk result (total.new ≡ total_at carrier.now stage total.old) }
 {
-    let Task { carrier, stage } = task;
     match stage {
         Stage::Claimed(seen) => on_claimed(alloc, carrier, seen, entry),
         Stage::Took => on_took(alloc, carrier, entry),
@@ -48,11 +48,11 @@ pub fn on_task(
 /// Claimed: by the judgement of the packet, unless the entry's word isn't the word seen.
 fn on_claimed(
     alloc: Global,
-    carrier: Packet,
+    carrier: &Packet,
     seen: Seen,
     entry: &mut Entry,
 ) -> Result<Step, AllocError>
-    ensures { IfOk result (Exchanges (rules.on_claimed has_buffer carrier (word_seen seen) entry.old) entry.old entry.new) }
+    ensures { IfOk result (Exchanges carrier.now (rules.on_claimed has_buffer carrier.now (word_seen seen) entry.old) entry.old entry.new) }
 {
     if !entry.seen().is_same(seen) {
         return Ok(drops(Unfit::Lost));
@@ -64,10 +64,10 @@ fn on_claimed(
 fn on_judged_claim(
     alloc: Global,
     judged: Judged,
-    carrier: Packet,
+    carrier: &Packet,
     entry: &mut Entry,
 ) -> Result<Step, AllocError>
-    ensures { IfOk result (Exchanges (rules.on_judged_claim judged has_buffer carrier entry.old) entry.old entry.new) }
+    ensures { IfOk result (Exchanges carrier.now (rules.on_judged_claim judged has_buffer carrier.now entry.old) entry.old entry.new) }
 {
     match judged {
         Judged::Admit => Ok(admits(carrier, Arguments::Carried, entry)),
@@ -84,38 +84,38 @@ fn on_judged_claim(
 }
 
 /// The call of the carrier is to run.
-fn admits(carrier: Packet, arguments: Arguments, entry: &mut Entry) -> Step
-    ensures { (old : Entry) → Exchanges (rules.admits carrier (arguments_in arguments carrier.payload)) old entry.new result }
+fn admits(carrier: &Packet, arguments: Arguments, entry: &mut Entry) -> Step
+    ensures { (old : Entry) → Exchanges carrier.now (rules.admits carrier.now (arguments_in arguments carrier.now.payload)) old entry.new result }
 {
     let number = carrier.header().call.number;
     *entry = Entry::new(EntryState::Running { number });
     Step {
-        worker: Worker::at(carrier, Stage::Admitted(arguments)),
+        next: Some(Stage::Admitted(arguments)),
         did: Did::Admits,
         adds: Adds::Nothing,
     }
 }
 
 /// Begin: piece 0 is kept.
-fn on_begin(alloc: Global, carrier: Packet, entry: &mut Entry) -> Result<Step, AllocError>
-    ensures { IfOk result (Exchanges (rules.on_begin has_buffer carrier) entry.old entry.new) }
+fn on_begin(alloc: Global, carrier: &Packet, entry: &mut Entry) -> Result<Step, AllocError>
+    ensures { IfOk result (Exchanges carrier.now (rules.on_begin has_buffer carrier.now) entry.old entry.new) }
 {
     let number = carrier.header().call.number;
     let pieces = Gathering::begin(alloc, carrier.payload())?;
-    let answer = ack(alloc, &carrier)?;
+    let answer = ack(alloc, carrier)?;
     *entry = Entry::new(EntryState::Gather { number, pieces });
     Ok(rests(Did::Begins, Adds::Packet(answer)))
 }
 
 /// More: what is gathered is taken in hand.
-fn on_more(carrier: Packet, entry: &mut Entry) -> Step
-    ensures { Exchanges (rules.on_more carrier entry.old) entry.old entry.new result }
+fn on_more(carrier: &Packet, entry: &mut Entry) -> Step
+    ensures { Exchanges carrier.now (rules.on_more carrier.now entry.old) entry.old entry.new result }
 {
     match entry.take() {
         EntryState::Gather { number, pieces } => {
             *entry = Entry::new(EntryState::Filling { number, pieces });
             Step {
-                worker: Worker::at(carrier, Stage::Took),
+                next: Some(Stage::Took),
                 did: Did::Takes,
                 adds: Adds::Nothing,
             }
@@ -125,14 +125,14 @@ fn on_more(carrier: Packet, entry: &mut Entry) -> Step
 }
 
 /// Fetch: the reply is taken in hand.
-fn on_fetch(carrier: Packet, entry: &mut Entry) -> Step
-    ensures { Exchanges (rules.on_fetch carrier entry.old) entry.old entry.new result }
+fn on_fetch(carrier: &Packet, entry: &mut Entry) -> Step
+    ensures { Exchanges carrier.now (rules.on_fetch carrier.now entry.old) entry.old entry.new result }
 {
     match entry.take() {
         EntryState::Done { number, answer } => {
             *entry = Entry::new(EntryState::Sending { number, answer });
             Step {
-                worker: Worker::at(carrier, Stage::Fetched),
+                next: Some(Stage::Fetched),
                 did: Did::Fetches,
                 adds: Adds::Nothing,
             }
@@ -143,8 +143,8 @@ fn on_fetch(carrier: Packet, entry: &mut Entry) -> Step
 
 /// Took: the carrier's piece is compared with the one that is due.
 #[tactic(auto, unfolding(call_rules::specs::Worker::on_took))]
-fn on_took(alloc: Global, carrier: Packet, entry: &mut Entry) -> Result<Step, AllocError>
-    ensures { IfOk result (Exchanges (rules.on_took carrier entry.old) entry.old entry.new) }
+fn on_took(alloc: Global, carrier: &Packet, entry: &mut Entry) -> Result<Step, AllocError>
+    ensures { IfOk result (Exchanges carrier.now (rules.on_took carrier.now entry.old) entry.old entry.new) }
 {
     match entry.take() {
         EntryState::Filling { number, pieces } => {
@@ -161,20 +161,20 @@ fn on_took(alloc: Global, carrier: Packet, entry: &mut Entry) -> Result<Step, Al
 /// The piece that is due: the last makes the call whole, and another is acknowledged.
 fn on_due(
     alloc: Global,
-    carrier: Packet,
+    carrier: &Packet,
     number: CallNumber,
     mut pieces: Gathering,
     entry: &mut Entry,
 ) -> Result<Step, AllocError>
     requires { pieces.next < PIECES }
     ensures { IfOk result (λ step. (old : Entry)
-        → Exchanges (rules.on_due carrier number.value pieces.bytes.items pieces.next) old entry.new step) }
+        → Exchanges carrier.now (rules.on_due carrier.now number.value pieces.bytes.items pieces.next) old entry.new step) }
 {
     pieces.push(carrier.payload())?;
     if carrier.header().last {
         return Ok(admits(carrier, Arguments::Gathered(pieces), entry));
     }
-    let answer = ack(alloc, &carrier)?;
+    let answer = ack(alloc, carrier)?;
     *entry = Entry::new(EntryState::Gather { number, pieces });
     Ok(rests(Did::Rests, Adds::Packet(answer)))
 }
@@ -182,20 +182,20 @@ fn on_due(
 /// Another piece: one that was gathered is acknowledged again.
 fn on_other(
     alloc: Global,
-    carrier: Packet,
+    carrier: &Packet,
     number: CallNumber,
     pieces: Gathering,
     entry: &mut Entry,
 ) -> Result<Step, AllocError>
     ensures { IfOk result (λ step. (old : Entry)
-        → Exchanges (rules.on_other carrier number.value pieces.bytes.items pieces.next) old entry.new step) }
+        → Exchanges carrier.now (rules.on_other carrier.now number.value pieces.bytes.items pieces.next) old entry.new step) }
 {
     let is_again = carrier.header().fragment < pieces.next;
     *entry = Entry::new(EntryState::Gather { number, pieces });
     if !is_again {
         return Ok(drops(Unfit::Skipped));
     }
-    let answer = ack(alloc, &carrier)?;
+    let answer = ack(alloc, carrier)?;
     Ok(rests(Did::Rests, Adds::Packet(answer)))
 }
 
@@ -204,19 +204,19 @@ fn on_other(
 fn on_admitted(
     alloc: Global,
     total: &mut u32,
-    carrier: Packet,
+    carrier: &Packet,
     arguments: Arguments,
 ) -> Result<Step, AllocError>
-    ensures step { IfOk result (Keeps (rules.on_admitted has_buffer carrier (arguments_in arguments carrier.payload)
-        (served total.old carrier.header.procedure (arguments_in arguments carrier.payload)).answer)) }
-    ensures total { OnOk result (total.new ≡ (served total.old carrier.header.procedure (arguments_in arguments carrier.payload)).total) }
+    ensures step { IfOk result (Keeps carrier.now (rules.on_admitted has_buffer carrier.now (arguments_in arguments carrier.now.payload)
+        (served total.old carrier.now.header.procedure (arguments_in arguments carrier.now.payload)).answer)) }
+    ensures total { OnOk result (total.new ≡ (served total.old carrier.now.header.procedure (arguments_in arguments carrier.now.payload)).total) }
 {
     let Header {
         call,
         procedure,
         ..
     } = *carrier.header();
-    let bytes = arguments.bytes(&carrier);
+    let bytes = arguments.bytes(carrier);
     let served = serve(alloc, *total, procedure, bytes)?;
     *total = served.total;
     let answer = served.answer;
@@ -228,7 +228,7 @@ fn on_admitted(
         answer.reply.as_slice(),
     );
     Ok(Step {
-        worker: Worker::at(carrier, Stage::Ran(answer)),
+        next: Some(Stage::Ran(answer)),
         did: Did::Runs,
         adds: Adds::Run(line),
     })
@@ -238,22 +238,22 @@ fn on_admitted(
 #[tactic(auto, unfolding(call_rules::specs::Worker::on_ran))]
 fn on_ran(
     alloc: Global,
-    carrier: Packet,
+    carrier: &Packet,
     answer: Answer,
     entry: &mut Entry,
 ) -> Result<Step, AllocError>
-    ensures { IfOk result (Exchanges (rules.on_ran carrier (answer_of answer)) entry.old entry.new) }
+    ensures { IfOk result (Exchanges carrier.now (rules.on_ran carrier.now (answer_of answer)) entry.old entry.new) }
 {
     let number = carrier.header().call.number;
-    let piece = reply_piece(alloc, &carrier, &answer, 0)?;
+    let piece = reply_piece(alloc, carrier, &answer, 0)?;
     *entry = Entry::new(EntryState::Done { number, answer });
     Ok(rests(Did::Replies, Adds::Packet(piece)))
 }
 
 /// Fetched: the piece that is asked for is sent, if there is one.
 #[tactic(auto, unfolding(call_rules::specs::Worker::on_fetched))]
-fn on_fetched(alloc: Global, carrier: Packet, entry: &mut Entry) -> Result<Step, AllocError>
-    ensures { IfOk result (Exchanges (rules.on_fetched carrier entry.old) entry.old entry.new) }
+fn on_fetched(alloc: Global, carrier: &Packet, entry: &mut Entry) -> Result<Step, AllocError>
+    ensures { IfOk result (Exchanges carrier.now (rules.on_fetched carrier.now entry.old) entry.old entry.new) }
 {
     match entry.take() {
         EntryState::Sending { number, answer } => { resends(alloc, carrier, number, answer, entry) }
@@ -263,18 +263,18 @@ fn on_fetched(alloc: Global, carrier: Packet, entry: &mut Entry) -> Result<Step,
 
 fn resends(
     alloc: Global,
-    carrier: Packet,
+    carrier: &Packet,
     number: CallNumber,
     answer: Answer,
     entry: &mut Entry,
 ) -> Result<Step, AllocError>
     ensures { IfOk result (λ step. (old : Entry)
-        → Exchanges (rules.resends carrier number.value (answer_of answer) (rules.wanted_piece carrier.header)) old entry.new step) }
+        → Exchanges carrier.now (rules.resends carrier.now number.value (answer_of answer) (rules.wanted_piece carrier.now.header)) old entry.new step) }
 {
-    let i = wanted_piece(&carrier);
+    let i = wanted_piece(carrier);
     let is_there = i < count(answer.reply.len());
     let step = if is_there {
-        let piece = reply_piece(alloc, &carrier, &answer, i)?;
+        let piece = reply_piece(alloc, carrier, &answer, i)?;
         rests(Did::Resends, Adds::Packet(piece))
     } else {
         drops(Unfit::Same)
@@ -297,7 +297,9 @@ fn wanted_piece(carrier: &Packet) -> u16
 
 /// The entry isn't as it was: it gets its state back, and the packet is dropped.
 fn loses(state: EntryState, entry: &mut Entry) -> Step
-    ensures step { Keeps (rules.drops Unfit.Lost) result }
+    ensures worker { (p : Packet) → worker_after p result.next ≡ rules.Resting }
+    ensures did { result.did ≡ Did.Drops Unfit.Lost }
+    ensures adds { result.adds ≡ Adds.Nothing }
     ensures entry { entry.new ≡ entry_of state }
 {
     *entry = Entry::new(state);

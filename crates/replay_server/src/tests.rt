@@ -3,13 +3,13 @@
 
 use crate::entry::{Entry, EntryState};
 use crate::service::{Served, serve};
+use crate::stage::Stage;
 use crate::task_rules::on_task;
 use crate::texts::Answer;
 use crate::trial::{
     ACK, ACKED, Added, CALL, CLIENT, CallerPacket, PROBE, RESULT, SERVICE, ServerPacket, added_by,
     booted, header_of, take, told,
 };
-use crate::worker::{Stage, Task};
 use crate::{ServerMachine, Worked};
 use call_rules::{Did, Unfit};
 use ff_io::Station;
@@ -206,10 +206,7 @@ fn fetch(alloc: Global, fragment: u16, reply: &[u8]) -> Result<(Did, Added), Fai
     let Ok(arrived) = arrive(SERVER, packet.frame()) else {
         return Err("a packet that arrives".into());
     };
-    let task = Task {
-        carrier: Packet::kept(alloc, &arrived)?,
-        stage: Stage::Fetched,
-    };
+    let carrier = Packet::kept(alloc, &arrived)?;
     let answer = Answer {
         signal: false,
         reply: Vec::from_slice(alloc, reply)?,
@@ -218,7 +215,7 @@ fn fetch(alloc: Global, fragment: u16, reply: &[u8]) -> Result<(Did, Added), Fai
         number: header.call.number,
         answer,
     });
-    let step = on_task(alloc, &mut 0, task, &mut entry)?;
+    let step = on_task(alloc, &mut 0, &carrier, Stage::Fetched, &mut entry)?;
     Ok((step.did, added_by(&step.adds)))
 }
 

@@ -1,49 +1,28 @@
 //! The workers of the server.
 
-ghost use Rattle.std.specs.Prelude.{◌≡◌, ◌≤◌, length};
+ghost use Rattle.std.specs.Prelude.{◌≡◌, Some, IfOk, OnOk};
+ghost use Rattle.call_rules.specs.Packet.{Packet};
 ghost use Rattle.call_rules.specs.Worker as rules;
-ghost use Rattle.fragments.specs.declared.limits.TheConstants.{LONG};
+ghost use Rattle.replay_server.specs.GoesOn.{ExchangesIn, row_over};
+ghost use Rattle.replay_server.specs.Rules.{total_at};
+ghost use Rattle.replay_server.specs.Worker.{worker_after, worker_of};
 
-use crate::texts::{Answer, Gathering};
-use call_rules::Seen;
+use crate::entry::{Entry, place_in};
+use crate::stage::Stage;
+use crate::step::{Step, Stepped};
+use crate::task_rules::on_task;
 use replay_packets::Packet;
+use std::alloc::{AllocError, Global};
 use std::marker::Model;
+use std::mem;
 
-/// Where the arguments of an admitted call are.
-#[derive(Drop)]
-pub enum Arguments {
-    /// In its only packet, the carrier.
-    Carried,
-    /// Gathered from its pieces.
-    Gathered(Gathering),
-}
-
-/// What a worker is to do next with its carrier.
-#[derive(Drop)]
-pub enum Stage {
-    /// It has seen this of the entry when it claimed the packet.
-    Claimed(Seen),
-    /// It has what is gathered of the call in hand.
-    Took,
-    /// The entry runs the call, whose body is to run.
-    Admitted(Arguments),
-    /// The body has answered.
-    Ran(Answer),
-    /// It has the entry's reply in hand.
-    Fetched,
-}
-
-/// What a worker is at that isn't idle: the packet that it claimed, and what is next.
-#[derive(Drop)]
-pub struct Task {
-    pub carrier: Packet,
-    pub stage: Stage,
-}
-
-/// One worker.
+/// One worker. It is idle, or it holds the packet that it claimed, its carrier, which stays where it is until it is
+/// given back.
 #[derive(Drop)]
 pub struct Worker {
-    task: Option<Task>,
+    carrier: Option<Packet>,
+    /// What is next with the carrier, where there is one.
+    stage: Stage,
 }
 
 impl Model for Worker {
@@ -52,48 +31,79 @@ impl Model for Worker {
 
     ghost Value = { Worker };
 
-    ghost view = { λ w. worker_of w.task };
+    ghost view = { λ w. worker_of w.carrier w.stage };
 }
 
 impl Worker {
-    ghost use Rattle.replay_server.specs.Worker.{worker_at, worker_of};
+    ghost use Rattle.replay_server.specs.GoesOn.{Goes};
 
     /// A worker without a packet.
     pub fn idle() -> Self
         ensures { result ≡ rules.Resting }
     {
-        Worker { task: None }
-    }
-
-    /// A worker that holds a packet.
-    pub fn at(carrier: Packet, stage: Stage) -> Self
-        ensures { result ≡ worker_at carrier stage }
-    {
         Worker {
-            task: Some(Task { carrier, stage }),
+            carrier: None,
+            stage: Stage::Took,
         }
     }
 
-    /// Takes its task out, and leaves an idle worker.
-    pub fn take(&mut self) -> Option<Task>
-        ensures task { worker_of result ≡ self.old }
-        ensures idle { self.new ≡ rules.Resting }
+    /// The worker that has taken a packet, and is to do this next with it, or gives it back.
+    pub fn after(packet: Packet, next: Option<Stage>) -> Self
+        ensures { result ≡ worker_after packet next }
     {
-        self.task.take()
+        match next {
+            Some(stage) => Worker {
+                carrier: Some(packet),
+                stage,
+            },
+            None => Worker::idle(),
+        }
+    }
+
+    /// A worker with a packet does what is next, with the entries that the server keeps; the service may have a new
+    /// total. An idle worker does nothing. `Err` only where memory is short: then what was next is lost.
+    pub fn go_on(
+        &mut self,
+        alloc: Global,
+        total: &mut u32,
+        entries: &mut Vec<Entry>,
+    ) -> Result<Option<Stepped>, AllocError>
+        ensures { IfOk result (Goes self.old self.new total.old total.new entries.old.items entries.new.items) }
+    {
+        let Some(carrier) = &self.carrier else {
+            return Ok(None);
+        };
+        let number = carrier.header().call.number;
+        let stage = mem::replace(&mut self.stage, Stage::Took);
+        let Step { next, did, adds } = on_entries(alloc, total, carrier, stage, entries)?;
+        settle(&mut self.carrier, &mut self.stage, next);
+        Ok(Some(Stepped { number, did, adds }))
     }
 }
 
-impl Arguments {
-    ghost use Rattle.replay_server.specs.Worker.{arguments_in};
+/// What a worker keeps after a step: its carrier with what is next, or nothing.
+fn settle(carrier: &mut Option<Packet>, stage: &mut Stage, next: Option<Stage>)
+    ensures { (p : Packet) → carrier.old ≡ Some p → worker_of carrier.new stage.new ≡ worker_after p next }
+{
+    match next {
+        Some(after) => *stage = after,
+        None => *carrier = None,
+    }
+}
 
-    /// The arguments themselves.
-    pub fn bytes<'a>(&'a self, carrier: &'a Packet) -> &'a [u8]
-        ensures bytes { result.now ≡ arguments_in self.now carrier.now.payload }
-        ensures long { length result.now ≤ LONG }
-    {
-        match self {
-            Arguments::Carried => carrier.payload(),
-            Arguments::Gathered(pieces) => pieces.bytes.as_slice(),
-        }
+/// What is next is done with the entry of the carrier's activity; where there is none, with an empty one that is let go.
+fn on_entries(
+    alloc: Global,
+    total: &mut u32,
+    carrier: &Packet,
+    stage: Stage,
+    entries: &mut Vec<Entry>,
+) -> Result<Step, AllocError>
+    ensures step { IfOk result (ExchangesIn carrier.now (row_over carrier.now stage total.old entries.old.items) entries.old.items entries.new.items) }
+    ensures total { OnOk result (total.new ≡ total_at carrier.now stage total.old) }
+{
+    match place_in(entries.as_slice(), carrier.header().call.activity) {
+        Some(place) => on_task(alloc, total, carrier, stage, &mut entries[place]),
+        None => on_task(alloc, total, carrier, stage, &mut Entry::empty()),
     }
 }

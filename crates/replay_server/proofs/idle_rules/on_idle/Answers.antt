@@ -12,5 +12,5 @@ use Rattle.replay_server.proofs.idle_rules.on_idle.Goals as goal
 
 pub returns : goal.returns
 returns c =
-    let P : Step → Type 0 = λ step. (e : Option Entry) → option_map word_of e ≡ option_map word_seen c.args.seen → Keeps (on_kind c.header.result.now.kind (asked_of c.args.exports.now.rows c.args.packet) e c.args.packet) step in
-    IfOk-weaker _ P _ (λ step h e seen. keeps_as _ _ step (idle_as _ e c.args.packet _ (ap (λ (x : Fields). x.kind) c.header.ensures.fields)) (h e seen)) c.on_kind.ensures
+    let P : Step → Type 0 = λ step. (e : Option Entry) → option_map word_of e ≡ option_map word_seen c.args.seen → Keeps c.args.packet.now (on_kind c.header.result.now.kind (asked_of c.args.exports.now.rows c.args.packet.now) e c.args.packet.now) step in
+    IfOk-weaker _ P _ (λ step h e seen. keeps_as c.args.packet.now _ _ step (idle_as _ e c.args.packet.now _ (ap (λ (x : Fields). x.kind) c.header.ensures.fields)) (h e seen)) c.on_kind.ensures

@@ -7,5 +7,5 @@ use Rattle.replay_server.proofs.task_rules.on_judged_claim.Goals as goal
 
 pub returns-in-Admit : goal.returns-in-Admit
 returns-in-Admit c =
-    exchanges_as _ _ c.args.entry.now c.admits.new.entry c.admits.result
-    (ap (λ (j : Judged). on_judged_claim j has_buffer c.args.carrier c.args.entry.now) (sym c.in-Admit.is)) (c.admits.ensures c.args.entry.now)
+    exchanges_as c.args.carrier.now _ _ c.args.entry.now c.admits.new.entry c.admits.result
+    (ap (λ (j : Judged). on_judged_claim j has_buffer c.args.carrier.now c.args.entry.now) (sym c.in-Admit.is)) (c.admits.ensures c.args.entry.now)

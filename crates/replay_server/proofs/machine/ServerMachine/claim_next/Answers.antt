@@ -1,5 +1,6 @@
-use Rattle.std.proofs.Common.{◌+◌, ap}
+use Rattle.std.proofs.Common.{◌+◌, ap, set, ◌∙◌}
 use Rattle.call_rules.specs.Packet.{Fields}
+use Rattle.call_rules.specs.Worker.{Worker}
 use Rattle.replay_server.proofs.Served.{claims, claims_none}
 use Rattle.replay_server.proofs.machine.ServerMachine.claim_next.Goals as goal
 
@@ -11,4 +12,5 @@ pub returns-clause-outcome : goal.returns-clause-outcome
 returns-clause-outcome c w =
     let h = c.in-Some.ensures in
     claims w c.args.self.now c.next_ready.new.self c.put_worker.new.self c.args.place c.in-Some.packet h.0 c.in_ok-step.step c.header.result.now.call.number
-    (ap (λ (x : Fields). x.call.number) c.header.ensures.fields) h.1 h.2 c.in_ok-step.ensures c.put_worker.ensures
+    (ap (λ (x : Fields). x.call.number) c.header.ensures.fields) h.1 h.2 c.in_ok-step.ensures
+    (c.put_worker.ensures ∙ ap (λ (x : Worker). record c.next_ready.new.self { workers = set c.next_ready.new.self.workers c.args.place x }) c.after.ensures)
