@@ -1,9 +1,29 @@
 //! The first faults of texts just outside the grammar.
 use crate::{ScriptFault, parse_script};
+use std::alloc::Global;
+
+/// The fault of a text, which is short.
+fn fault_of(alloc: Global, text: &[u8]) -> Option<ScriptFault> {
+    if text.len() > 1_000 {
+        return None;
+    }
+    parse_script(alloc, text).err()
+}
+
+/// Whether each of the texts has this fault, at this line.
+fn all_have(alloc: Global, texts: &[&[u8]], line: u32, number: u8) -> bool {
+    let fault = Some(ScriptFault { line, number });
+    for text in texts {
+        if fault_of(alloc, text) != fault {
+            return false;
+        }
+    }
+    true
+}
 
 #[test]
 fn words_that_begin_no_form(rt: HostRuntime) {
-    let texts: [&[u8]; 6] = [
+    static FAULT_1_AT_1: [&[u8]; 6] = [
         b"jump\nend\n",
         b"Journal\nend\n",
         b"call 2 1 jump\nend\n",
@@ -11,20 +31,14 @@ fn words_that_begin_no_form(rt: HostRuntime) {
         b"end# x\n",
         b"call 2 1 #null\nend\n",
     ];
-    for text in texts {
-        let fault = parse_script(rt.alloc(), text).err();
-        assert_eq!(rt; fault, Some(ScriptFault { line: 1, number: 1 }));
-    }
-    let texts: [&[u8]; 1] = [b"call 2 1 null\ndeliv"];
-    for text in texts {
-        let fault = parse_script(rt.alloc(), text).err();
-        assert_eq!(rt; fault, Some(ScriptFault { line: 2, number: 1 }));
-    }
+    assert!(rt; all_have(rt.alloc(), &FAULT_1_AT_1, 1, 1));
+    static FAULT_1_AT_2: [&[u8]; 1] = [b"call 2 1 null\ndeliv"];
+    assert!(rt; all_have(rt.alloc(), &FAULT_1_AT_2, 2, 1));
 }
 
 #[test]
 fn lines_of_another_number_of_words(rt: HostRuntime) {
-    let texts: [&[u8]; 20] = [
+    static FAULT_2_AT_1: [&[u8]; 20] = [
         b"deliver\nend\n",
         b"deliver 1 2\nend\n",
         b"damage 1\nend\n",
@@ -46,15 +60,12 @@ fn lines_of_another_number_of_words(rt: HostRuntime) {
         b"tick 2\nend\n",
         b"tick 2 1 1 1\nend\n",
     ];
-    for text in texts {
-        let fault = parse_script(rt.alloc(), text).err();
-        assert_eq!(rt; fault, Some(ScriptFault { line: 1, number: 2 }));
-    }
+    assert!(rt; all_have(rt.alloc(), &FAULT_2_AT_1, 1, 2));
 }
 
 #[test]
 fn lines_of_lives_of_another_number_of_words(rt: HostRuntime) {
-    let texts: [&[u8]; 16] = [
+    static FAULT_2_AT_1: [&[u8]; 16] = [
         b"second\nend\n",
         b"second 2 3\nend\n",
         b"bind 2 1\nend\n",
@@ -72,15 +83,12 @@ fn lines_of_lives_of_another_number_of_words(rt: HostRuntime) {
         b"call 2 1 maxarg 1 2\nend\n",
         b"call 2 1 maxresult\nend\n",
     ];
-    for text in texts {
-        let fault = parse_script(rt.alloc(), text).err();
-        assert_eq!(rt; fault, Some(ScriptFault { line: 1, number: 2 }));
-    }
+    assert!(rt; all_have(rt.alloc(), &FAULT_2_AT_1, 1, 2));
 }
 
 #[test]
 fn words_that_are_no_numbers(rt: HostRuntime) {
-    let texts: [&[u8]; 18] = [
+    static FAULT_3_AT_1: [&[u8]; 18] = [
         b"deliver x\nend\n",
         b"deliver 01\nend\n",
         b"deliver 00\nend\n",
@@ -100,15 +108,12 @@ fn words_that_are_no_numbers(rt: HostRuntime) {
         b"call 2 1 maxarg x\nend\n",
         b"call 2 1 maxresult 00\nend\n",
     ];
-    for text in texts {
-        let fault = parse_script(rt.alloc(), text).err();
-        assert_eq!(rt; fault, Some(ScriptFault { line: 1, number: 3 }));
-    }
+    assert!(rt; all_have(rt.alloc(), &FAULT_3_AT_1, 1, 3));
 }
 
 #[test]
 fn numbers_out_of_range(rt: HostRuntime) {
-    let texts: [&[u8]; 20] = [
+    static FAULT_4_AT_1: [&[u8]; 20] = [
         b"deliver 0\nend\n",
         b"deliver 4294967296\nend\n",
         b"deliver 18446744073709551617\nend\n",
@@ -130,15 +135,12 @@ fn numbers_out_of_range(rt: HostRuntime) {
         b"tick 2 1 0\nend\n",
         b"tick 2 1 1001\nend\n",
     ];
-    for text in texts {
-        let fault = parse_script(rt.alloc(), text).err();
-        assert_eq!(rt; fault, Some(ScriptFault { line: 1, number: 4 }));
-    }
+    assert!(rt; all_have(rt.alloc(), &FAULT_4_AT_1, 1, 4));
 }
 
 #[test]
 fn numbers_of_lives_out_of_range(rt: HostRuntime) {
-    let texts: [&[u8]; 14] = [
+    static FAULT_4_AT_1: [&[u8]; 14] = [
         b"second 0\nend\n",
         b"second 4294967296\nend\n",
         b"bind 1 1 main\nend\n",
@@ -154,15 +156,12 @@ fn numbers_of_lives_out_of_range(rt: HostRuntime) {
         b"call 2 1 maxarg 92157\nend\n",
         b"call 2 1 maxresult 4294967296\nend\n",
     ];
-    for text in texts {
-        let fault = parse_script(rt.alloc(), text).err();
-        assert_eq!(rt; fault, Some(ScriptFault { line: 1, number: 4 }));
-    }
+    assert!(rt; all_have(rt.alloc(), &FAULT_4_AT_1, 1, 4));
 }
 
 #[test]
 fn words_that_are_no_names(rt: HostRuntime) {
-    let texts: [&[u8]; 10] = [
+    static FAULT_5_AT_1: [&[u8]; 10] = [
         b"export 9\nend\n",
         b"export 9main\nend\n",
         b"export ma-in\nend\n",
@@ -174,15 +173,12 @@ fn words_that_are_no_names(rt: HostRuntime) {
         b"bind 2 1 1\nend\n",
         b"bind 2 1 [\nend\n",
     ];
-    for text in texts {
-        let fault = parse_script(rt.alloc(), text).err();
-        assert_eq!(rt; fault, Some(ScriptFault { line: 1, number: 5 }));
-    }
+    assert!(rt; all_have(rt.alloc(), &FAULT_5_AT_1, 1, 5));
 }
 
 #[test]
 fn lines_behind_the_end(rt: HostRuntime) {
-    let texts: [&[u8]; 7] = [
+    static FAULT_6_AT_2: [&[u8]; 7] = [
         b"end\njournal\n",
         b"end\nexport 9\n",
         b"end\nend\n",
@@ -191,39 +187,24 @@ fn lines_behind_the_end(rt: HostRuntime) {
         b"end\npool 2 0\n",
         b"end\ndeliver x\n",
     ];
-    for text in texts {
-        let fault = parse_script(rt.alloc(), text).err();
-        assert_eq!(rt; fault, Some(ScriptFault { line: 2, number: 6 }));
-    }
-    let texts: [&[u8]; 1] = [b"end\n\n# x\njournal"];
-    for text in texts {
-        let fault = parse_script(rt.alloc(), text).err();
-        assert_eq!(rt; fault, Some(ScriptFault { line: 4, number: 6 }));
-    }
+    assert!(rt; all_have(rt.alloc(), &FAULT_6_AT_2, 2, 6));
+    static FAULT_6_AT_4: [&[u8]; 1] = [b"end\n\n# x\njournal"];
+    assert!(rt; all_have(rt.alloc(), &FAULT_6_AT_4, 4, 6));
 }
 
 #[test]
 fn texts_without_an_end(rt: HostRuntime) {
-    let texts: [&[u8]; 3] = [b"", b"journal", b"# end"];
-    for text in texts {
-        let fault = parse_script(rt.alloc(), text).err();
-        assert_eq!(rt; fault, Some(ScriptFault { line: 1, number: 7 }));
-    }
-    let texts: [&[u8]; 3] = [b"\n", b"journal\n", b"\njournal"];
-    for text in texts {
-        let fault = parse_script(rt.alloc(), text).err();
-        assert_eq!(rt; fault, Some(ScriptFault { line: 2, number: 7 }));
-    }
-    let texts: [&[u8]; 1] = [b"journal\n\n# x\n"];
-    for text in texts {
-        let fault = parse_script(rt.alloc(), text).err();
-        assert_eq!(rt; fault, Some(ScriptFault { line: 4, number: 7 }));
-    }
+    static FAULT_7_AT_1: [&[u8]; 3] = [b"", b"journal", b"# end"];
+    assert!(rt; all_have(rt.alloc(), &FAULT_7_AT_1, 1, 7));
+    static FAULT_7_AT_2: [&[u8]; 3] = [b"\n", b"journal\n", b"\njournal"];
+    assert!(rt; all_have(rt.alloc(), &FAULT_7_AT_2, 2, 7));
+    static FAULT_7_AT_4: [&[u8]; 1] = [b"journal\n\n# x\n"];
+    assert!(rt; all_have(rt.alloc(), &FAULT_7_AT_4, 4, 7));
 }
 
 #[test]
 fn bytes_that_no_line_has(rt: HostRuntime) {
-    let texts: [&[u8]; 12] = [
+    static FAULT_8_AT_1: [&[u8]; 12] = [
         b"end\x00\n",
         b"end\x7f\n",
         b"end\xff\n",
@@ -237,24 +218,18 @@ fn bytes_that_no_line_has(rt: HostRuntime) {
         b"work\r1\nend\n",
         b"jump\x01\nend\n",
     ];
-    for text in texts {
-        let fault = parse_script(rt.alloc(), text).err();
-        assert_eq!(rt; fault, Some(ScriptFault { line: 1, number: 8 }));
-    }
-    let texts: [&[u8]; 3] = [
+    assert!(rt; all_have(rt.alloc(), &FAULT_8_AT_1, 1, 8));
+    static FAULT_8_AT_2: [&[u8]; 3] = [
         b"end\n\r",
         b"end\njournal\x80\n",
         b"journal\nexport \x7f\nend\n",
     ];
-    for text in texts {
-        let fault = parse_script(rt.alloc(), text).err();
-        assert_eq!(rt; fault, Some(ScriptFault { line: 2, number: 8 }));
-    }
+    assert!(rt; all_have(rt.alloc(), &FAULT_8_AT_2, 2, 8));
 }
 
 #[test]
 fn forms_that_are_not_built(rt: HostRuntime) {
-    let texts: [&[u8]; 8] = [
+    static FAULT_9_AT_1: [&[u8]; 8] = [
         b"pool 2 0\nend\n",
         b"pool\nend\n",
         b"holders 1\nend\n",
@@ -264,62 +239,41 @@ fn forms_that_are_not_built(rt: HostRuntime) {
         b"call 2 1 bigresult 1\nend\n",
         b"call x y bigarg\nend\n",
     ];
-    for text in texts {
-        let fault = parse_script(rt.alloc(), text).err();
-        assert_eq!(rt; fault, Some(ScriptFault { line: 1, number: 9 }));
-    }
-    let texts: [&[u8]; 1] = [b"journal\npool 2 0\nend\n"];
-    for text in texts {
-        let fault = parse_script(rt.alloc(), text).err();
-        assert_eq!(rt; fault, Some(ScriptFault { line: 2, number: 9 }));
-    }
+    assert!(rt; all_have(rt.alloc(), &FAULT_9_AT_1, 1, 9));
+    static FAULT_9_AT_2: [&[u8]; 1] = [b"journal\npool 2 0\nend\n"];
+    assert!(rt; all_have(rt.alloc(), &FAULT_9_AT_2, 2, 9));
 }
 
 #[test]
 fn the_first_of_two_faults_counts(rt: HostRuntime) {
-    let texts: [&[u8]; 2] = [b"call x y jump\nend\n", b"jump 1 2 3 4 5 6 7 8\nend\n"];
-    for text in texts {
-        let fault = parse_script(rt.alloc(), text).err();
-        assert_eq!(rt; fault, Some(ScriptFault { line: 1, number: 1 }));
-    }
-    let texts: [&[u8]; 4] = [
+    static FAULT_1_AT_1: [&[u8]; 2] = [b"call x y jump\nend\n", b"jump 1 2 3 4 5 6 7 8\nend\n"];
+    assert!(rt; all_have(rt.alloc(), &FAULT_1_AT_1, 1, 1));
+    static FAULT_2_AT_1: [&[u8]; 4] = [
         b"deliver x y\nend\n",
         b"call x y add 1\nend\n",
         b"bind x y\nend\n",
         b"export 9 9\nend\n",
     ];
-    for text in texts {
-        let fault = parse_script(rt.alloc(), text).err();
-        assert_eq!(rt; fault, Some(ScriptFault { line: 1, number: 2 }));
-    }
-    let texts: [&[u8]; 5] = [
+    assert!(rt; all_have(rt.alloc(), &FAULT_2_AT_1, 1, 2));
+    static FAULT_3_AT_1: [&[u8]; 5] = [
         b"bind x 9 9\nend\n",
         b"skip 2 x 0\nend\n",
         b"damage x 12112\nend\n",
         b"call x 9 null\nend\n",
         b"call 2 1 add x 4294967296\nend\n",
     ];
-    for text in texts {
-        let fault = parse_script(rt.alloc(), text).err();
-        assert_eq!(rt; fault, Some(ScriptFault { line: 1, number: 3 }));
-    }
-    let texts: [&[u8]; 5] = [
+    assert!(rt; all_have(rt.alloc(), &FAULT_3_AT_1, 1, 3));
+    static FAULT_4_AT_1: [&[u8]; 5] = [
         b"bind 2 9 9\nend\n",
         b"skip 2 9 x\nend\n",
         b"damage 0 x\nend\n",
         b"call 1 x null\nend\n",
         b"call 2 9 add x x\nend\n",
     ];
-    for text in texts {
-        let fault = parse_script(rt.alloc(), text).err();
-        assert_eq!(rt; fault, Some(ScriptFault { line: 1, number: 4 }));
-    }
-    let texts: [&[u8]; 2] = [
+    assert!(rt; all_have(rt.alloc(), &FAULT_4_AT_1, 1, 4));
+    static FAULT_4_AT_2: [&[u8]; 2] = [
         b"deliver 1\ndamage 1 12112\nend\n",
         b"journal\nwork 5\njump\nend\n",
     ];
-    for text in texts {
-        let fault = parse_script(rt.alloc(), text).err();
-        assert_eq!(rt; fault, Some(ScriptFault { line: 2, number: 4 }));
-    }
+    assert!(rt; all_have(rt.alloc(), &FAULT_4_AT_2, 2, 4));
 }

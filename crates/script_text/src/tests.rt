@@ -1,15 +1,42 @@
 //! What is read of worked scripts.
-use crate::{count_lines, parse_script};
-use binder::read_name;
+use crate::{Script, count_lines, parse_script};
+use binder::{Name, read_name};
 use replay_model::{CallWord, Event};
+use std::alloc::{AllocError, Global};
 use std::test::Fail;
+
+/// The script of a text, which is short.
+fn script_of(alloc: Global, text: &[u8]) -> Option<Script> {
+    if text.len() > 1_000 {
+        return None;
+    }
+    parse_script(alloc, text).ok()
+}
+
+/// Whether a text is a script of these events.
+fn reads(alloc: Global, text: &[u8], events: &[Event]) -> bool {
+    match script_of(alloc, text) {
+        Some(script) => script.events.as_slice() == events,
+        None => false,
+    }
+}
+
+/// The name that a text is.
+fn named(text: &[u8]) -> Result<Name, Fail> {
+    Ok(read_name(text).ok_or("a name")?)
+}
+
+/// The server's small and long buffers in the script of a text.
+fn buffers(alloc: Global, text: &[u8]) -> Option<(usize, usize)> {
+    let script = script_of(alloc, text)?;
+    Some((script.small, script.long))
+}
 
 const EMPTY_CALL: &[u8] =
     b"call 2 1 null\ndeliver 1\nwork 1\nwork 1\nwork 1\nwork 1\ndeliver 2\njournal\nend\n";
 
 #[test]
-fn the_empty_call_is_read(rt: HostRuntime) -> Result<(), Fail> {
-    let script = parse_script(rt.alloc(), EMPTY_CALL)?;
+fn the_empty_call_is_read(rt: HostRuntime) {
     let call = Event::Call {
         machine: 2,
         process: 1,
@@ -26,34 +53,24 @@ fn the_empty_call_is_read(rt: HostRuntime) -> Result<(), Fail> {
         Event::Journal,
         Event::End,
     ];
-    assert_eq!(rt; script.events.as_slice(), expected.as_slice());
-    assert_eq!(rt; script.small, 256);
-    assert_eq!(rt; script.long, 72);
-    Ok(())
+    assert!(rt; reads(rt.alloc(), EMPTY_CALL, &expected));
+    assert!(rt; buffers(rt.alloc(), EMPTY_CALL) == Some((256, 72)));
 }
 
 #[test]
-fn blanks_may_be_several_and_stand_at_both_ends(rt: HostRuntime) -> Result<(), Fail> {
-    let script = parse_script(
-        rt.alloc(),
-        b" \tcall \t9   8\tnull \t\n\tdeliver\t4294967295\nwork  4\n end",
-    )?;
+fn blanks_may_be_several_and_stand_at_both_ends(rt: HostRuntime) {
     let call = Event::Call {
         machine: 9,
         process: 8,
         word: CallWord::Null,
     };
     let expected = [call, Event::Deliver(4294967295), Event::Work(4), Event::End];
-    assert_eq!(rt; script.events.as_slice(), expected.as_slice());
-    Ok(())
+    static TEXT: &[u8] = b" \tcall \t9   8\tnull \t\n\tdeliver\t4294967295\nwork  4\n end";
+    assert!(rt; reads(rt.alloc(), TEXT, &expected));
 }
 
 #[test]
-fn each_number_of_a_line_stands_in_its_place(rt: HostRuntime) -> Result<(), Fail> {
-    let script = parse_script(
-        rt.alloc(),
-        b"call 3 4 add 0 4294967295\ndamage 2 12111\ndamage 3 0\nshow 1\ndeliver 1\nshow 1\nshow 2\nend\n",
-    )?;
+fn each_number_of_a_line_stands_in_its_place(rt: HostRuntime) {
     let call = Event::Call {
         machine: 3,
         process: 4,
@@ -72,16 +89,13 @@ fn each_number_of_a_line_stands_in_its_place(rt: HostRuntime) -> Result<(), Fail
         Event::Show(2),
         Event::End,
     ];
-    assert_eq!(rt; script.events.as_slice(), expected.as_slice());
-    Ok(())
+    static TEXT: &[u8] =
+        b"call 3 4 add 0 4294967295\ndamage 2 12111\ndamage 3 0\nshow 1\ndeliver 1\nshow 1\nshow 2\nend\n";
+    assert!(rt; reads(rt.alloc(), TEXT, &expected));
 }
 
 #[test]
-fn ticks_may_be_counted_and_packets_may_come_again(rt: HostRuntime) -> Result<(), Fail> {
-    let script = parse_script(
-        rt.alloc(),
-        b"call 3 4 bump 7\ntick 3 4\ntick 9 8 1000\ndeliver 1\ndamage 1 0\ndeliver 1\nend\n",
-    )?;
+fn ticks_may_be_counted_and_packets_may_come_again(rt: HostRuntime) {
     let call = Event::Call {
         machine: 3,
         process: 4,
@@ -104,19 +118,16 @@ fn ticks_may_be_counted_and_packets_may_come_again(rt: HostRuntime) -> Result<()
         Event::Deliver(1),
         Event::End,
     ];
-    assert_eq!(rt; script.events.as_slice(), expected.as_slice());
-    Ok(())
+    static TEXT: &[u8] =
+        b"call 3 4 bump 7\ntick 3 4\ntick 9 8 1000\ndeliver 1\ndamage 1 0\ndeliver 1\nend\n";
+    assert!(rt; reads(rt.alloc(), TEXT, &expected));
 }
 
 #[test]
 fn seconds_exports_and_restarts_are_read(rt: HostRuntime) -> Result<(), Fail> {
-    let script = parse_script(
-        rt.alloc(),
-        b"second 1\nsecond 4294967295\nexport x\nwithdraw Zz09\nexport abcdefghijklmnopqrstuvwxyzABCDEF\nrestart 1\nrestart 9\nend\n",
-    )?;
-    let letter = read_name(b"x").ok_or("a name")?;
-    let mixed = read_name(b"Zz09").ok_or("a name")?;
-    let longest = read_name(b"abcdefghijklmnopqrstuvwxyzABCDEF").ok_or("a name")?;
+    let letter = named(b"x")?;
+    let mixed = named(b"Zz09")?;
+    let longest = named(b"abcdefghijklmnopqrstuvwxyzABCDEF")?;
     let expected = [
         Event::Second(1),
         Event::Second(4294967295),
@@ -127,20 +138,18 @@ fn seconds_exports_and_restarts_are_read(rt: HostRuntime) -> Result<(), Fail> {
         Event::Restart(9),
         Event::End,
     ];
-    assert_eq!(rt; script.events.as_slice(), expected.as_slice());
+    static TEXT: &[u8] =
+        b"second 1\nsecond 4294967295\nexport x\nwithdraw Zz09\nexport abcdefghijklmnopqrstuvwxyzABCDEF\nrestart 1\nrestart 9\nend\n";
+    assert!(rt; reads(rt.alloc(), TEXT, &expected));
     Ok(())
 }
 
 #[test]
 fn binds_and_skipped_numbers_are_read(rt: HostRuntime) -> Result<(), Fail> {
-    let script = parse_script(
-        rt.alloc(),
-        b"bind 3 4 main\nskip 2 1 1\nskip 9 8 4294967295\nend\n",
-    )?;
     let bind = Event::Bind {
         machine: 3,
         process: 4,
-        name: read_name(b"main").ok_or("a name")?,
+        name: named(b"main")?,
     };
     let skips = [
         Event::Skip {
@@ -155,7 +164,8 @@ fn binds_and_skipped_numbers_are_read(rt: HostRuntime) -> Result<(), Fail> {
         },
     ];
     let expected = [bind, skips[0], skips[1], Event::End];
-    assert_eq!(rt; script.events.as_slice(), expected.as_slice());
+    static TEXT: &[u8] = b"bind 3 4 main\nskip 2 1 1\nskip 9 8 4294967295\nend\n";
+    assert!(rt; reads(rt.alloc(), TEXT, &expected));
     Ok(())
 }
 
@@ -169,11 +179,7 @@ fn call_with(word: CallWord) -> Event {
 }
 
 #[test]
-fn long_calls_are_read(rt: HostRuntime) -> Result<(), Fail> {
-    let script = parse_script(
-        rt.alloc(),
-        b"call 5 2 maxarg 0\ncall 5 2 maxarg 92156\ncall 5 2 maxresult 0\ncall 5 2 maxresult 4294967295\nend\n",
-    )?;
+fn long_calls_are_read(rt: HostRuntime) {
     let expected = [
         call_with(CallWord::MaxArg(0)),
         call_with(CallWord::MaxArg(92156)),
@@ -181,14 +187,24 @@ fn long_calls_are_read(rt: HostRuntime) -> Result<(), Fail> {
         call_with(CallWord::MaxResult(4294967295)),
         Event::End,
     ];
-    assert_eq!(rt; script.events.as_slice(), expected.as_slice());
-    Ok(())
+    static TEXT: &[u8] =
+        b"call 5 2 maxarg 0\ncall 5 2 maxarg 92156\ncall 5 2 maxresult 0\ncall 5 2 maxresult 4294967295\nend\n";
+    assert!(rt; reads(rt.alloc(), TEXT, &expected));
+}
+
+/// Whether each of the texts is a script of these events.
+fn all_read(alloc: Global, texts: &[&[u8]], events: &[Event]) -> bool {
+    for text in texts {
+        if !reads(alloc, text, events) {
+            return false;
+        }
+    }
+    true
 }
 
 #[test]
-fn lines_that_say_nothing_are_skipped(rt: HostRuntime) -> Result<(), Fail> {
-    let expected = [Event::Journal, Event::End];
-    let texts: [&[u8]; 12] = [
+fn lines_that_say_nothing_are_skipped(rt: HostRuntime) {
+    static TEXTS: [&[u8]; 12] = [
         b"journal\nend",
         b"journal\r\nend\r\n",
         b"\njournal\n\nend\n",
@@ -202,23 +218,25 @@ fn lines_that_say_nothing_are_skipped(rt: HostRuntime) -> Result<(), Fail> {
         b"#journal 1 2\n# call 2 1 null\njournal\nend\n",
         b"journal \r\nend\t\r\n",
     ];
-    for text in texts {
-        let script = parse_script(rt.alloc(), text)?;
-        assert_eq!(rt; script.events.as_slice(), expected.as_slice());
-    }
-    Ok(())
+    let expected = [Event::Journal, Event::End];
+    assert!(rt; all_read(rt.alloc(), &TEXTS, &expected));
+}
+
+/// How many lines so many newlines are, and with a byte behind them.
+fn newlines_counted(alloc: Global, many: usize) -> Result<(usize, usize), AllocError> {
+    let mut text = vec![in alloc; b'\n'; many]?;
+    let lines = count_lines(&text);
+    text.push(b'#')?;
+    Ok((lines, count_lines(&text)))
 }
 
 #[test]
 fn lines_are_counted(rt: HostRuntime) -> Result<(), Fail> {
-    assert_eq!(rt; count_lines(b""), 0);
-    assert_eq!(rt; count_lines(b"end"), 1);
-    assert_eq!(rt; count_lines(b"end\n"), 1);
-    assert_eq!(rt; count_lines(b"\n\r"), 2);
-    assert_eq!(rt; count_lines(b"\n\nend\n"), 3);
-    let mut text = vec![in rt.alloc(); b'\n'; 20_000]?;
-    assert_eq!(rt; count_lines(&text), 20_000);
-    text.push(b'#')?;
-    assert_eq!(rt; count_lines(&text), 20_001);
+    assert!(rt; count_lines(b"") == 0);
+    assert!(rt; count_lines(b"end") == 1);
+    assert!(rt; count_lines(b"end\n") == 1);
+    assert!(rt; count_lines(b"\n\r") == 2);
+    assert!(rt; count_lines(b"\n\nend\n") == 3);
+    assert!(rt; newlines_counted(rt.alloc(), 20_000)? == (20_000, 20_001));
     Ok(())
 }
