@@ -1,14 +1,15 @@
 //! Seconds, exports, binds and call numbers in scripts of their own: what is impossible, and what is refused.
 
-use crate::rows::prints;
-use std::test::Fail;
+use crate::rows::{Row, first_other};
 
-/// A process with a call open, and one with a bind open.
-const BUSY: &[u8] =
-    b"call 2 1 null\ncall 2 1 null\nbind 2 1 main\nskip 2 1 1\nbind 2 2 main\ncall 2 2 null\n\
-bind 2 2 main\nskip 2 2 1\nend\n";
-
-const BUSY_TRANSCRIPT: &[u8] = b"start 2.1 65536\n\
+/// What is impossible, and what is refused.
+static REFUSALS: [Row; 7] = [
+    // A process with a call open, and one with a bind open.
+    Row {
+        shows: "a busy process starts nothing and skips nothing",
+        script: b"call 2 1 null\ncall 2 1 null\nbind 2 1 main\nskip 2 1 1\nbind 2 2 main\ncall 2 2 null\n\
+bind 2 2 main\nskip 2 2 1\nend\n",
+        transcript: b"start 2.1 65536\n\
 packet 1 2>1 call 65536/0 -l 0\n\
 impossible\n\
 impossible\n\
@@ -18,20 +19,14 @@ packet 2 2>1 bind 65536/0 -l 10\n\
 impossible\n\
 impossible\n\
 impossible\n\
-end runs 0 returned 0 signalled 0 failed 0 refused 0\n";
-
-#[test]
-fn a_busy_process_starts_nothing_and_skips_nothing(rt: HostRuntime) -> Result<(), Fail> {
-    assert!(rt; prints(rt.alloc(), BUSY, BUSY_TRANSCRIPT)?);
-    Ok(())
-}
-
-/// The numbers of the last second end at the last number of all.
-const LAST_NUMBER: &[u8] =
-    b"second 4294967295\nrestart 2\nskip 2 1 65536\nskip 2 1 65535\nskip 2 1 1\ncall 2 1 null\ndeliver 1\n\
-work 1\nwork 1\nwork 1\nwork 1\ndeliver 2\nskip 2 1 1\ncall 2 1 null\nbind 2 1 main\nend\n";
-
-const LAST_NUMBER_TRANSCRIPT: &[u8] = b"second 4294967295\n\
+end runs 0 returned 0 signalled 0 failed 0 refused 0\n",
+    },
+    // The numbers of the last second end at the last number of all.
+    Row {
+        shows: "no number is above the last",
+        script: b"second 4294967295\nrestart 2\nskip 2 1 65536\nskip 2 1 65535\nskip 2 1 1\ncall 2 1 null\ndeliver 1\n\
+work 1\nwork 1\nwork 1\nwork 1\ndeliver 2\nskip 2 1 1\ncall 2 1 null\nbind 2 1 main\nend\n",
+        transcript: b"second 4294967295\n\
 restarted 2 4294967295\n\
 impossible\n\
 skipped 2.1 281474976710655\n\
@@ -48,37 +43,26 @@ returned 2.1 281474976710655 0:\n\
 impossible\n\
 nostart TooFast 281474976710656 4294967295\n\
 nostart TooFast 281474976710656 4294967295\n\
-end runs 1 returned 1 signalled 0 failed 0 refused 0\n";
-
-#[test]
-fn no_number_is_above_the_last(rt: HostRuntime) -> Result<(), Fail> {
-    assert!(rt; prints(rt.alloc(), LAST_NUMBER, LAST_NUMBER_TRANSCRIPT)?);
-    Ok(())
-}
-
-const SECONDS: &[u8] = b"second 1\nsecond 2\nsecond 2\nsecond 1\nsecond 4294967295\nend\n";
-
-const SECONDS_TRANSCRIPT: &[u8] = b"impossible\n\
+end runs 1 returned 1 signalled 0 failed 0 refused 0\n",
+    },
+    Row {
+        shows: "a second is later than the last",
+        script: b"second 1\nsecond 2\nsecond 2\nsecond 1\nsecond 4294967295\nend\n",
+        transcript: b"impossible\n\
 second 2\n\
 impossible\n\
 impossible\n\
 second 4294967295\n\
-end runs 0 returned 0 signalled 0 failed 0 refused 0\n";
-
-#[test]
-fn a_second_is_later_than_the_last(rt: HostRuntime) -> Result<(), Fail> {
-    assert!(rt; prints(rt.alloc(), SECONDS, SECONDS_TRANSCRIPT)?);
-    Ok(())
-}
-
-/// Boots, starts and exports read the second, also those that are refused; nothing else does.
-const READ_SECONDS: &[u8] =
-    b"restart 1\nrestart 2\ncall 6 1 null\nsecond 2\nrestart 2\nrestart 2\ncall 3 1 null\nrestart 3\n\
+end runs 0 returned 0 signalled 0 failed 0 refused 0\n",
+    },
+    // Boots, starts and exports read the second, also those that are refused; nothing else does.
+    Row {
+        shows: "a machine boots in no second that it has read",
+        script: b"restart 1\nrestart 2\ncall 6 1 null\nsecond 2\nrestart 2\nrestart 2\ncall 3 1 null\nrestart 3\n\
 skip 4 1 131072\ncall 4 1 null\nrestart 4\nskip 5 1 1\ntick 5 1\nrestart 5\ncall 6 1 null\n\
 bind 6 1 main\nskip 6 1 1\nrestart 6\nexport main\nrestart 1\nsecond 3\nwithdraw aux\n\
-withdraw main\nrestart 1\nend\n";
-
-const READ_SECONDS_TRANSCRIPT: &[u8] = b"impossible\n\
+withdraw main\nrestart 1\nend\n",
+        transcript: b"impossible\n\
 impossible\n\
 start 6.1 65536\n\
 packet 1 6>1 call 65536/0 -l 0\n\
@@ -104,22 +88,16 @@ second 3\n\
 impossible\n\
 withdrawn 0\n\
 restarted 1 3\n\
-end runs 0 returned 0 signalled 0 failed 0 refused 0\n";
-
-#[test]
-fn a_machine_boots_in_no_second_that_it_has_read(rt: HostRuntime) -> Result<(), Fail> {
-    assert!(rt; prints(rt.alloc(), READ_SECONDS, READ_SECONDS_TRANSCRIPT)?);
-    Ok(())
-}
-
-/// Of the causes the first that applies is told: at the second `p` no row is free, and the next identifier is too
-/// late too.
-const EXPORTS: &[u8] =
-    b"export a\nexport main\nwithdraw a\nsecond 16\nexport a\nexport b\nexport c\nexport d\nexport e\n\
+end runs 0 returned 0 signalled 0 failed 0 refused 0\n",
+    },
+    // Of the causes the first that applies is told: at the second `p` no row is free, and the next identifier is too
+    // late too.
+    Row {
+        shows: "an export is refused for its first cause",
+        script: b"export a\nexport main\nwithdraw a\nsecond 16\nexport a\nexport b\nexport c\nexport d\nexport e\n\
 export f\nexport g\nexport h\nexport i\nexport j\nexport k\nexport l\nexport m\nexport n\nexport o\n\
-export o\nexport p\nwithdraw c\nwithdraw c\nexport p\nsecond 17\nexport p\nexport c\nend\n";
-
-const EXPORTS_TRANSCRIPT: &[u8] = b"noexport TooFast 2 1\n\
+export o\nexport p\nwithdraw c\nwithdraw c\nexport p\nsecond 17\nexport p\nexport c\nend\n",
+        transcript: b"noexport TooFast 2 1\n\
 noexport Exists\n\
 impossible\n\
 second 16\n\
@@ -146,19 +124,13 @@ noexport TooFast 17 16\n\
 second 17\n\
 export 3 17\n\
 noexport Full\n\
-end runs 0 returned 0 signalled 0 failed 0 refused 0\n";
-
-#[test]
-fn an_export_is_refused_for_its_first_cause(rt: HostRuntime) -> Result<(), Fail> {
-    assert!(rt; prints(rt.alloc(), EXPORTS, EXPORTS_TRANSCRIPT)?);
-    Ok(())
-}
-
-const PROBE_AFTER_WITHDRAW: &[u8] =
-    b"call 2 1 bump 1\ndeliver 1\nwork 1\nwork 1\ntick 2 1 4\ndeliver 2\nwork 2\ndeliver 3\nwork 1\n\
-work 1\nwithdraw main\ntick 2 1 4\ndeliver 5\nwork 1\ndeliver 6\njournal\nend\n";
-
-const PROBE_AFTER_WITHDRAW_TRANSCRIPT: &[u8] = b"start 2.1 65536\n\
+end runs 0 returned 0 signalled 0 failed 0 refused 0\n",
+    },
+    Row {
+        shows: "a probe is refused where the export is gone",
+        script: b"call 2 1 bump 1\ndeliver 1\nwork 1\nwork 1\ntick 2 1 4\ndeliver 2\nwork 2\ndeliver 3\nwork 1\n\
+work 1\nwithdraw main\ntick 2 1 4\ndeliver 5\nwork 1\ndeliver 6\njournal\nend\n",
+        transcript: b"start 2.1 65536\n\
 packet 1 2>1 call 65536/0 -l 4\n\
 ready 1\n\
 worker 1 claims 65536\n\
@@ -178,23 +150,12 @@ worker 1 rejects 65536 1\n\
 packet 6 1>2 reject 65536/0 -l 0\n\
 refused 2.1 65536 1\n\
 run 1 2.1 65536 bump 4:00000001 -> 4:00000001\n\
-end runs 1 returned 0 signalled 0 failed 0 refused 1\n";
-
-#[test]
-fn a_probe_is_refused_where_the_export_is_gone(rt: HostRuntime) -> Result<(), Fail> {
-    assert!(rt;
-        prints(
-            rt.alloc(),
-            PROBE_AFTER_WITHDRAW,
-            PROBE_AFTER_WITHDRAW_TRANSCRIPT
-        )?
-    );
-    Ok(())
-}
-
-const BIND_FAILED: &[u8] = b"bind 2 1 main\ntick 2 1 32\ncall 2 1 null\nend\n";
-
-const BIND_FAILED_TRANSCRIPT: &[u8] = b"bind 2.1 65536\n\
+end runs 1 returned 0 signalled 0 failed 0 refused 1\n",
+    },
+    Row {
+        shows: "a bind that nobody answers fails after eight transmissions",
+        script: b"bind 2 1 main\ntick 2 1 32\ncall 2 1 null\nend\n",
+        transcript: b"bind 2.1 65536\n\
 packet 1 2>1 bind 65536/0 -l 10\n\
 packet 2 2>1 bind 65536/0 -l 10\n\
 packet 3 2>1 bind 65536/0 -l 10\n\
@@ -206,10 +167,11 @@ packet 8 2>1 bind 65536/0 -l 10\n\
 bindfailed 2.1 65536 8\n\
 start 2.1 65537\n\
 packet 9 2>1 call 65537/0 -l 0\n\
-end runs 0 returned 0 signalled 0 failed 0 refused 0\n";
+end runs 0 returned 0 signalled 0 failed 0 refused 0\n",
+    },
+];
 
 #[test]
-fn a_bind_that_nobody_answers_fails_after_eight_transmissions(rt: HostRuntime) -> Result<(), Fail> {
-    assert!(rt; prints(rt.alloc(), BIND_FAILED, BIND_FAILED_TRANSCRIPT)?);
-    Ok(())
+fn what_is_impossible_and_what_is_refused(rt: HostRuntime) {
+    assert_eq!(rt; first_other(rt.alloc(), &REFUSALS), "");
 }

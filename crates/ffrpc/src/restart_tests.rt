@@ -1,14 +1,15 @@
 //! Machines that restart at each state of a caller and of a worker, and what comes late from the life before.
 
-use crate::rows::prints;
-use std::test::Fail;
+use crate::rows::{Row, first_other};
 
-/// The call of the new life comes to the server before that of the life before.
-const SENDING_CLIENT: &[u8] =
-    b"call 2 1 bump 1\nsecond 2\nrestart 2\ntick 2 1 4\ncall 2 1 bump 10\ndeliver 2\ndeliver 1\nwork 1\n\
-work 1\nwork 1\nwork 1\nwork 1\ndeliver 3\njournal\nend\n";
-
-const SENDING_CLIENT_TRANSCRIPT: &[u8] = b"start 2.1 65536\n\
+/// Restarts at each state.
+static RESTARTS: [Row; 5] = [
+    // The call of the new life comes to the server before that of the life before.
+    Row {
+        shows: "a client restarts while it sends",
+        script: b"call 2 1 bump 1\nsecond 2\nrestart 2\ntick 2 1 4\ncall 2 1 bump 10\ndeliver 2\ndeliver 1\nwork 1\n\
+work 1\nwork 1\nwork 1\nwork 1\ndeliver 3\njournal\nend\n",
+        transcript: b"start 2.1 65536\n\
 packet 1 2>1 call 65536/0 -l 4\n\
 second 2\n\
 restarted 2 2\n\
@@ -25,21 +26,15 @@ packet 3 1>2 result 131072/0 -l 4\n\
 worker 1 drops Older\n\
 returned 2.1 131072 4:0000000a\n\
 run 1 2.1 131072 bump 4:0000000a -> 4:0000000a\n\
-end runs 1 returned 1 signalled 0 failed 0 refused 0\n";
-
-#[test]
-fn a_client_restarts_while_it_sends(rt: HostRuntime) -> Result<(), Fail> {
-    assert!(rt; prints(rt.alloc(), SENDING_CLIENT, SENDING_CLIENT_TRANSCRIPT)?);
-    Ok(())
-}
-
-/// Acknowledgement and result of the life before come to a process that has a new call open.
-const WAITING_CLIENT: &[u8] =
-    b"call 2 1 bump 1\ndeliver 1\nwork 1\nwork 1\ntick 2 1 4\ndeliver 2\nwork 2\ndeliver 3\nsecond 2\n\
+end runs 1 returned 1 signalled 0 failed 0 refused 0\n",
+    },
+    // Acknowledgement and result of the life before come to a process that has a new call open.
+    Row {
+        shows: "a client restarts while it waits",
+        script: b"call 2 1 bump 1\ndeliver 1\nwork 1\nwork 1\ntick 2 1 4\ndeliver 2\nwork 2\ndeliver 3\nsecond 2\n\
 restart 2\ncall 2 1 bump 1\nwork 1\nwork 1\ndeliver 3\ndeliver 5\ndeliver 4\nwork 1\nwork 1\n\
-work 1\nwork 1\ndeliver 6\ndeliver 1\nwork 2\njournal\nend\n";
-
-const WAITING_CLIENT_TRANSCRIPT: &[u8] = b"start 2.1 65536\n\
+work 1\nwork 1\ndeliver 6\ndeliver 1\nwork 2\njournal\nend\n",
+        transcript: b"start 2.1 65536\n\
 packet 1 2>1 call 65536/0 -l 4\n\
 ready 1\n\
 worker 1 claims 65536\n\
@@ -69,20 +64,14 @@ ready 1\n\
 worker 2 drops Older\n\
 run 1 2.1 65536 bump 4:00000001 -> 4:00000001\n\
 run 2 2.1 131072 bump 4:00000001 -> 4:00000002\n\
-end runs 2 returned 1 signalled 0 failed 0 refused 0\n";
-
-#[test]
-fn a_client_restarts_while_it_waits(rt: HostRuntime) -> Result<(), Fail> {
-    assert!(rt; prints(rt.alloc(), WAITING_CLIENT, WAITING_CLIENT_TRANSCRIPT)?);
-    Ok(())
-}
-
-/// The answer to a bind of the life before binds nobody.
-const BINDING_CLIENT: &[u8] =
-    b"second 2\nexport aux\nbind 2 1 aux\ndeliver 1\nwork 1\nsecond 3\nrestart 2\ndeliver 2\n\
-bind 2 1 main\ndeliver 2\ndeliver 3\nwork 1\ndeliver 4\nend\n";
-
-const BINDING_CLIENT_TRANSCRIPT: &[u8] = b"second 2\n\
+end runs 2 returned 1 signalled 0 failed 0 refused 0\n",
+    },
+    // The answer to a bind of the life before binds nobody.
+    Row {
+        shows: "a client restarts while it binds",
+        script: b"second 2\nexport aux\nbind 2 1 aux\ndeliver 1\nwork 1\nsecond 3\nrestart 2\ndeliver 2\n\
+bind 2 1 main\ndeliver 2\ndeliver 3\nwork 1\ndeliver 4\nend\n",
+        transcript: b"second 2\n\
 export 1 2\n\
 bind 2.1 65536\n\
 packet 1 2>1 bind 65536/0 -l 9\n\
@@ -99,23 +88,17 @@ ready 3\n\
 worker 1 answers 196608\n\
 packet 4 1>2 bound 196608/0 -l 0\n\
 bound 2.1 196608 0 1\n\
-end runs 0 returned 0 signalled 0 failed 0 refused 0\n";
-
-#[test]
-fn a_client_restarts_while_it_binds(rt: HostRuntime) -> Result<(), Fail> {
-    assert!(rt; prints(rt.alloc(), BINDING_CLIENT, BINDING_CLIENT_TRANSCRIPT)?);
-    Ok(())
-}
-
-/// Worker 1 has claimed a packet, 2 has admitted a call, 3 has run one, 4 holds a kept reply, and packet 5 is
-/// ready.
-const WORKING_SERVER: &[u8] =
-    b"call 2 1 null\ncall 2 2 null\ncall 2 3 bump 1\ncall 2 4 null\ncall 2 5 null\ndeliver 4\nwork 4\n\
+end runs 0 returned 0 signalled 0 failed 0 refused 0\n",
+    },
+    // Worker 1 has claimed a packet, 2 has admitted a call, 3 has run one, 4 holds a kept reply, and packet 5 is
+    // ready.
+    Row {
+        shows: "a server restarts while workers hold calls",
+        script: b"call 2 1 null\ncall 2 2 null\ncall 2 3 bump 1\ncall 2 4 null\ncall 2 5 null\ndeliver 4\nwork 4\n\
 work 4\nwork 4\nwork 4\ndeliver 4\ndeliver 1\ndeliver 2\ndeliver 3\ndeliver 5\nwork 4\nwork 4\n\
 work 1\nwork 2\nwork 2\nwork 3\nwork 3\nwork 3\nsecond 2\nrestart 1\nwork 1\nwork 2\nwork 3\n\
-work 4\ndeliver 1\nwork 1\ndeliver 7\njournal\nend\n";
-
-const WORKING_SERVER_TRANSCRIPT: &[u8] = b"start 2.1 65536\n\
+work 4\ndeliver 1\nwork 1\ndeliver 7\njournal\nend\n",
+        transcript: b"start 2.1 65536\n\
 packet 1 2>1 call 65536/0 -l 0\n\
 start 2.2 65536\n\
 packet 2 2>1 call 65536/0 -l 0\n\
@@ -156,21 +139,15 @@ packet 7 1>2 reject 65536/0 -l 0\n\
 refused 2.1 65536 1\n\
 run 1 2.4 65536 null 0: -> 0:\n\
 run 2 2.3 65536 bump 4:00000001 -> 4:00000001\n\
-end runs 2 returned 0 signalled 0 failed 0 refused 1\n";
-
-#[test]
-fn a_server_restarts_while_workers_hold_calls(rt: HostRuntime) -> Result<(), Fail> {
-    assert!(rt; prints(rt.alloc(), WORKING_SERVER, WORKING_SERVER_TRANSCRIPT)?);
-    Ok(())
-}
-
-/// The total is 0 again, and a call packet of the life before is refused though its call has returned.
-const NEXT_LIFE: &[u8] =
-    b"call 2 1 bump 5\ndeliver 1\nwork 1\nwork 1\nwork 1\nwork 1\ndeliver 2\nsecond 2\nrestart 1\n\
+end runs 2 returned 0 signalled 0 failed 0 refused 1\n",
+    },
+    // The total is 0 again, and a call packet of the life before is refused though its call has returned.
+    Row {
+        shows: "a process binds to the next life of the server",
+        script: b"call 2 1 bump 5\ndeliver 1\nwork 1\nwork 1\nwork 1\nwork 1\ndeliver 2\nsecond 2\nrestart 1\n\
 bind 2 1 main\ndeliver 3\nwork 1\ndeliver 4\ncall 2 1 bump 1\ndeliver 5\nwork 1\nwork 1\nwork 1\n\
-work 1\ndeliver 6\ndeliver 1\nwork 1\ndeliver 7\njournal\nend\n";
-
-const NEXT_LIFE_TRANSCRIPT: &[u8] = b"start 2.1 65536\n\
+work 1\ndeliver 6\ndeliver 1\nwork 1\ndeliver 7\njournal\nend\n",
+        transcript: b"start 2.1 65536\n\
 packet 1 2>1 call 65536/0 -l 4\n\
 ready 1\n\
 worker 1 claims 65536\n\
@@ -202,10 +179,11 @@ packet 7 1>2 reject 65536/0 -l 0\n\
 drop Stale\n\
 run 1 2.1 65536 bump 4:00000005 -> 4:00000005\n\
 run 2 2.1 65538 bump 4:00000001 -> 4:00000001\n\
-end runs 2 returned 2 signalled 0 failed 0 refused 0\n";
+end runs 2 returned 2 signalled 0 failed 0 refused 0\n",
+    },
+];
 
 #[test]
-fn a_process_binds_to_the_next_life_of_the_server(rt: HostRuntime) -> Result<(), Fail> {
-    assert!(rt; prints(rt.alloc(), NEXT_LIFE, NEXT_LIFE_TRANSCRIPT)?);
-    Ok(())
+fn restarts_at_each_state(rt: HostRuntime) {
+    assert_eq!(rt; first_other(rt.alloc(), &RESTARTS), "");
 }

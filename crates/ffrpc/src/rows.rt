@@ -1,20 +1,38 @@
 //! Worked scripts and the transcripts that they print.
 
-use crate::status::Status;
-use crate::tests::{never_failing, ran};
+use crate::tests::{ends, never_failing};
 use std::alloc::Global;
 use std::test::Fail;
 
-/// Whether the script is played to its end and prints this.
-pub fn prints(alloc: Global, script: &[u8], transcript: &[u8]) -> Result<bool, Fail> {
-    let (status, written) = ran(alloc, &["replay"], &never_failing(script))?;
-    Ok(status == Status::Ok && written.as_slice() == transcript)
+/// A script, the transcript that it prints, and what that shows.
+pub struct Row {
+    pub shows: &'static str,
+    pub script: &'static [u8],
+    pub transcript: &'static [u8],
 }
 
-const EXCEPTION: &[u8] = b"call 2 1 add 4294967295 1\n\
-deliver 1\nwork 1\nwork 1\nwork 1\nwork 1\ndeliver 2\njournal\nend\n";
+/// Whether the script is played to its end and prints this.
+pub fn prints(alloc: Global, script: &[u8], transcript: &[u8]) -> bool {
+    ends(alloc, &["replay"], &never_failing(script), 0, transcript)
+}
 
-const EXCEPTION_TRANSCRIPT: &[u8] = b"start 2.1 65536\n\
+/// What the first row shows whose script doesn't print its transcript; nothing if each does.
+pub fn first_other(alloc: Global, rows: &[Row]) -> &'static str {
+    for row in rows {
+        if !prints(alloc, row.script, row.transcript) {
+            return row.shows;
+        }
+    }
+    ""
+}
+
+/// Calls, frames and damages.
+static CALLS: [Row; 5] = [
+    Row {
+        shows: "a sum that is too large is an exception",
+        script: b"call 2 1 add 4294967295 1\n\
+deliver 1\nwork 1\nwork 1\nwork 1\nwork 1\ndeliver 2\njournal\nend\n",
+        transcript: b"start 2.1 65536\n\
 packet 1 2>1 call 65536/0 -l 8\n\
 ready 1\n\
 worker 1 claims 65536\n\
@@ -24,18 +42,13 @@ worker 1 replies 65536\n\
 packet 2 1>2 signal 65536/0 -l 2\n\
 signalled 2.1 65536 1\n\
 run 1 2.1 65536 add 8:ffffffff00000001 -> !1\n\
-end runs 1 returned 0 signalled 1 failed 0 refused 0\n";
-
-#[test]
-fn a_sum_that_is_too_large_is_an_exception(rt: HostRuntime) -> Result<(), Fail> {
-    assert!(rt; prints(rt.alloc(), EXCEPTION, EXCEPTION_TRANSCRIPT)?);
-    Ok(())
-}
-
-const LARGEST_SUM: &[u8] = b"call 2 1 add 4294967295 0\n\
-deliver 1\nwork 1\nwork 1\nwork 1\nwork 1\ndeliver 2\nend\n";
-
-const LARGEST_SUM_TRANSCRIPT: &[u8] = b"start 2.1 65536\n\
+end runs 1 returned 0 signalled 1 failed 0 refused 0\n",
+    },
+    Row {
+        shows: "the largest sum is returned",
+        script: b"call 2 1 add 4294967295 0\n\
+deliver 1\nwork 1\nwork 1\nwork 1\nwork 1\ndeliver 2\nend\n",
+        transcript: b"start 2.1 65536\n\
 packet 1 2>1 call 65536/0 -l 8\n\
 ready 1\n\
 worker 1 claims 65536\n\
@@ -44,25 +57,21 @@ worker 1 runs 65536\n\
 worker 1 replies 65536\n\
 packet 2 1>2 result 65536/0 -l 4\n\
 returned 2.1 65536 4:ffffffff\n\
-end runs 1 returned 1 signalled 0 failed 0 refused 0\n";
-
-#[test]
-fn the_largest_sum_is_returned(rt: HostRuntime) -> Result<(), Fail> {
-    assert!(rt; prints(rt.alloc(), LARGEST_SUM, LARGEST_SUM_TRANSCRIPT)?);
-    Ok(())
-}
-
-const SHOW: &[u8] = b"call 2 1 null\nshow 1\nend\n";
-
-const SHOW_TRANSCRIPT: &[u8] = b"start 2.1 65536\n\
+end runs 1 returned 1 signalled 0 failed 0 refused 0\n",
+    },
+    Row {
+        shows: "frames are shown",
+        script: b"call 2 1 null\nshow 1\nend\n",
+        transcript: b"start 2.1 65536\n\
 packet 1 2>1 call 65536/0 -l 0\n\
 frame 1 74 02000a00000102000a00000208004500003c00000000401166af0a0000020a0000010fa30fa30028c94f0101020000000002000100000000000100000000000000010000000000000000\n\
-end runs 0 returned 0 signalled 0 failed 0 refused 0\n";
-
-const CHECKSUM_OF_ZERO: &[u8] = b"call 2 1 add 51510 0\nshow 1\n\
-deliver 1\nwork 1\nwork 1\nwork 1\nwork 1\ndeliver 2\njournal\nend\n";
-
-const CHECKSUM_OF_ZERO_TRANSCRIPT: &[u8] = b"start 2.1 65536\n\
+end runs 0 returned 0 signalled 0 failed 0 refused 0\n",
+    },
+    Row {
+        shows: "a checksum of zero is sent as ones",
+        script: b"call 2 1 add 51510 0\nshow 1\n\
+deliver 1\nwork 1\nwork 1\nwork 1\nwork 1\ndeliver 2\njournal\nend\n",
+        transcript: b"start 2.1 65536\n\
 packet 1 2>1 call 65536/0 -l 8\n\
 frame 1 82 02000a00000102000a00000208004500004400000000401166a70a0000020a0000010fa30fa30030ffff01010200000000020001000000000001000000000000000100000001000800000000c93600000000\n\
 ready 1\n\
@@ -73,13 +82,40 @@ worker 1 replies 65536\n\
 packet 2 1>2 result 65536/0 -l 4\n\
 returned 2.1 65536 4:0000c936\n\
 run 1 2.1 65536 add 8:0000c93600000000 -> 4:0000c936\n\
-end runs 1 returned 1 signalled 0 failed 0 refused 0\n";
+end runs 1 returned 1 signalled 0 failed 0 refused 0\n",
+    },
+    // The call packet and the result each come with a bit of the Ethernet source flipped; another result comes
+    // with one of its checksum flipped, and its call stays open.
+    Row {
+        shows: "a bit that nobody reads changes nothing",
+        script: b"call 2 1 null\ncall 9 8 add 1 2\ndamage 1 48\ndamage 2 95\n\
+work 1\nwork 1\nwork 1\nwork 1\nwork 2\nwork 2\nwork 2\nwork 2\n\
+damage 3 60\ndamage 4 320\nend\n",
+        transcript: b"start 2.1 65536\n\
+packet 1 2>1 call 65536/0 -l 0\n\
+start 9.8 65536\n\
+packet 2 9>1 call 65536/0 -l 8\n\
+ready 1\n\
+ready 2\n\
+worker 1 claims 65536\n\
+worker 1 admits 65536\n\
+worker 1 runs 65536\n\
+worker 1 replies 65536\n\
+packet 3 1>2 result 65536/0 -l 0\n\
+worker 2 claims 65536\n\
+worker 2 admits 65536\n\
+worker 2 runs 65536\n\
+worker 2 replies 65536\n\
+packet 4 1>9 result 65536/0 -l 4\n\
+returned 2.1 65536 0:\n\
+drop frame UdpChecksum\n\
+end runs 2 returned 1 signalled 0 failed 0 refused 0\n",
+    },
+];
 
 #[test]
-fn frames_are_shown(rt: HostRuntime) -> Result<(), Fail> {
-    assert!(rt; prints(rt.alloc(), SHOW, SHOW_TRANSCRIPT)?);
-    assert!(rt; prints(rt.alloc(), CHECKSUM_OF_ZERO, CHECKSUM_OF_ZERO_TRANSCRIPT)?);
-    Ok(())
+fn calls_and_frames(rt: HostRuntime) {
+    assert_eq!(rt; first_other(rt.alloc(), &CALLS), "");
 }
 
 /// What is printed where the call packet comes with one bit flipped: for the bits before each of these, and
@@ -122,7 +158,7 @@ fn damage_prints(alloc: Global, bit: u16, line: &str) -> Result<bool, Fail> {
     let transcript = format!(in alloc;
         "start 2.1 65536\npacket 1 2>1 call 65536/0 -l 0\n{line}\nend runs 0 returned 0 signalled 0 failed 0 refused 0\n"
     )?;
-    prints(alloc, script.as_bytes(), transcript.as_bytes())
+    Ok(prints(alloc, script.as_bytes(), transcript.as_bytes()))
 }
 
 #[test]
@@ -157,40 +193,8 @@ fn worked_damages_have_their_causes(rt: HostRuntime) -> Result<(), Fail> {
     Ok(())
 }
 
-/// The call packet and the result each come with a bit of the Ethernet source flipped; another result comes
-/// with one of its checksum flipped, and its call stays open.
-const DAMAGED_AND_READ: &[u8] = b"call 2 1 null\ncall 9 8 add 1 2\ndamage 1 48\ndamage 2 95\n\
-work 1\nwork 1\nwork 1\nwork 1\nwork 2\nwork 2\nwork 2\nwork 2\n\
-damage 3 60\ndamage 4 320\nend\n";
-
-const DAMAGED_AND_READ_TRANSCRIPT: &[u8] = b"start 2.1 65536\n\
-packet 1 2>1 call 65536/0 -l 0\n\
-start 9.8 65536\n\
-packet 2 9>1 call 65536/0 -l 8\n\
-ready 1\n\
-ready 2\n\
-worker 1 claims 65536\n\
-worker 1 admits 65536\n\
-worker 1 runs 65536\n\
-worker 1 replies 65536\n\
-packet 3 1>2 result 65536/0 -l 0\n\
-worker 2 claims 65536\n\
-worker 2 admits 65536\n\
-worker 2 runs 65536\n\
-worker 2 replies 65536\n\
-packet 4 1>9 result 65536/0 -l 4\n\
-returned 2.1 65536 0:\n\
-drop frame UdpChecksum\n\
-end runs 2 returned 1 signalled 0 failed 0 refused 0\n";
-
 #[test]
-fn a_bit_that_nobody_reads_changes_nothing(rt: HostRuntime) -> Result<(), Fail> {
-    assert!(rt; prints(rt.alloc(), DAMAGED_AND_READ, DAMAGED_AND_READ_TRANSCRIPT)?);
-    Ok(())
-}
-
-#[test]
-fn lines_that_say_nothing_are_skipped(rt: HostRuntime) -> Result<(), Fail> {
+fn lines_that_say_nothing_are_skipped(rt: HostRuntime) {
     let transcript = b"start 2.1 65536\n\
 packet 1 2>1 call 65536/0 -l 0\n\
 end runs 0 returned 0 signalled 0 failed 0 refused 0\n";
@@ -202,7 +206,6 @@ end runs 0 returned 0 signalled 0 failed 0 refused 0\n";
         b"call 2 1 null\nend\n\n# the end\n \r\n",
     ];
     for script in scripts {
-        assert!(rt; prints(rt.alloc(), script, transcript)?);
+        assert!(rt; prints(rt.alloc(), script, transcript));
     }
-    Ok(())
 }

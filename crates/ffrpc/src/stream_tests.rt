@@ -49,14 +49,14 @@ fn a_reader_is_a_source_that_counts_what_fails(rt: HostRuntime) {
         calls: 0,
     });
     let mut into = [0u8; 3];
-    assert_eq!(rt; source.read(&mut into), Ok(3));
-    assert_eq!(rt; into.as_slice(), b"abc".as_slice());
-    assert_eq!(rt; source.read(&mut into), Err(ReadFailed));
-    assert_eq!(rt; source.faults, 1);
-    assert_eq!(rt; source.read(&mut into), Ok(2));
-    assert_eq!(rt; into.as_slice(), b"dec".as_slice());
-    assert_eq!(rt; source.read(&mut into), Ok(0));
-    assert_eq!(rt; source.faults, 1);
+    assert!(rt; source.read(&mut into) == Ok(3));
+    assert!(rt; into.as_slice() == b"abc".as_slice());
+    assert!(rt; source.read(&mut into) == Err(ReadFailed));
+    assert!(rt; source.faults == 1);
+    assert!(rt; source.read(&mut into) == Ok(2));
+    assert!(rt; into.as_slice() == b"dec".as_slice());
+    assert!(rt; source.read(&mut into) == Ok(0));
+    assert!(rt; source.faults == 1);
 }
 
 #[test]
@@ -65,11 +65,11 @@ fn a_writer_is_a_sink_that_counts_what_fails(rt: HostRuntime) -> Result<(), Fail
         inner: Vec::new(rt.alloc()),
         calls: 0,
     });
-    assert_eq!(rt; sink.write(b"abc"), Ok(3));
-    assert_eq!(rt; sink.write(b"def"), Err(WriteFailed));
-    assert_eq!(rt; sink.faults, 1);
-    assert_eq!(rt; sink.write(b"gh"), Ok(2));
-    assert_eq!(rt; sink.writer.inner.as_slice(), b"abcgh".as_slice());
-    assert_eq!(rt; sink.faults, 1);
+    assert!(rt; sink.write(b"abc") == Ok(3));
+    assert!(rt; sink.write(b"def") == Err(WriteFailed));
+    assert!(rt; sink.faults == 1);
+    assert!(rt; sink.write(b"gh") == Ok(2));
+    assert!(rt; sink.writer.inner.as_slice() == b"abcgh".as_slice());
+    assert!(rt; sink.faults == 1);
     Ok(())
 }

@@ -1,8 +1,7 @@
 //! `stubs` over sources and sinks in memory: what it prints, and how it ends.
 
-use crate::status::Status;
-use crate::tests::{never_failing, ran};
-use std::alloc::{AllocError, Global};
+use crate::tests::{ends, never_failing};
+use std::alloc::Global;
 use std::test::Fail;
 
 const TEST: &[u8] = b"INTERFACE Test;
@@ -95,51 +94,37 @@ PROCEDURE MaxResult(n: CARDINAL; VAR OUT b: ARRAY OF BYTE UPTO 92156) RAISES {Ov
 END Test.
 ";
 
-/// What `stubs` prints of a text, and the number that it ends with.
-fn stubs(alloc: Global, text: &[u8]) -> Result<(u8, Vec<u8>), AllocError> {
-    let (status, written) = ran(alloc, &["stubs"], &never_failing(text))?;
-    Ok((status.number(), written))
+/// Whether `stubs` prints this of a text, and ends with this number.
+fn stubs(alloc: Global, text: &[u8], number: u8, written: &[u8]) -> bool {
+    ends(alloc, &["stubs"], &never_failing(text), number, written)
 }
 
 #[test]
-fn the_test_interface_has_its_plan_text(rt: HostRuntime) -> Result<(), Fail> {
-    let (number, written) = stubs(rt.alloc(), TEST)?;
-    assert_eq!(rt; number, 0);
-    assert_eq!(rt; written.as_slice(), TEST_PLANS);
-    Ok(())
+fn the_test_interface_has_its_plan_text(rt: HostRuntime) {
+    assert!(rt; stubs(rt.alloc(), TEST, 0, TEST_PLANS));
 }
 
 #[test]
-fn the_file_interface_has_its_plan_text(rt: HostRuntime) -> Result<(), Fail> {
-    let (number, written) = stubs(rt.alloc(), FILES)?;
-    assert_eq!(rt; number, 0);
-    assert_eq!(rt; written.as_slice(), FILES_PLANS);
-    Ok(())
+fn the_file_interface_has_its_plan_text(rt: HostRuntime) {
+    assert!(rt; stubs(rt.alloc(), FILES, 0, FILES_PLANS));
 }
 
 #[test]
-fn a_plan_that_is_too_long_is_refused(rt: HostRuntime) -> Result<(), Fail> {
-    let (number, written) = stubs(rt.alloc(), TOO_LONG)?;
-    assert_eq!(rt; number, 3);
-    assert_eq!(rt; written.as_slice(), b"fault BadText 6 12\n".as_slice());
-    Ok(())
+fn a_plan_that_is_too_long_is_refused(rt: HostRuntime) {
+    assert!(rt; stubs(rt.alloc(), TOO_LONG, 3, b"fault BadText 6 12\n"));
 }
 
 #[test]
-fn loops_and_records_have_their_lines(rt: HostRuntime) -> Result<(), Fail> {
+fn loops_and_records_have_their_lines(rt: HostRuntime) {
     let text =
         b"INTERFACE A; PROCEDURE P(VAR OUT a: ARRAY 3 OF RECORD a: BYTE; b: LONGCARD END; b: ARRAY OF BOOLEAN UPTO 2); END A.";
-    let (number, written) = stubs(rt.alloc(), text)?;
-    assert_eq!(rt; number, 0);
-    assert_eq!(rt;
-        written.as_slice(),
-        b"interface A\nprocedure 0 P\narguments 4 6\nopen 2\nbool\nnext\nreply 27 27\nloop 3\nu8\nu64\nnext\nend\n".as_slice()
-    );
-    Ok(())
+    let plans =
+        b"interface A\nprocedure 0 P\narguments 4 6\nopen 2\nbool\nnext\nreply 27 27\nloop 3\nu8\nu64\nnext\nend\n";
+    assert!(rt; stubs(rt.alloc(), text, 0, plans));
 }
 
 /// Texts with the line and the number of the first fault. A plan that is too long comes behind every other.
-const FAULTS: [(&[u8], &[u8]); 14] = [
+static FAULTS: [(&[u8], &[u8]); 14] = [
     (b"INTERFACE A;\n@", b"fault BadText 2 1\n"),
     (b"INTERFACE A;\n(* END A.", b"fault BadText 2 2\n"),
     (b"", b"fault BadText 1 3\n"),
@@ -177,37 +162,35 @@ const FAULTS: [(&[u8], &[u8]); 14] = [
     ),
 ];
 
-#[test]
-fn each_fault_is_told_with_its_line(rt: HostRuntime) -> Result<(), Fail> {
-    for (text, line) in FAULTS {
-        let (number, written) = stubs(rt.alloc(), text)?;
-        assert_eq!(rt; number, 3);
-        assert_eq!(rt; written.as_slice(), line);
+/// The number of the first text that isn't refused with its line, from 0.
+fn first_other(alloc: Global, faults: &[(&[u8], &[u8])]) -> Option<usize> {
+    for (i, (text, line)) in faults.iter().enumerate() {
+        if !stubs(alloc, text, 3, line) {
+            return Some(i);
+        }
     }
-    Ok(())
+    None
 }
 
 #[test]
-fn a_read_or_a_write_that_fails_is_told(rt: HostRuntime) -> Result<(), Fail> {
+fn each_fault_is_told_with_its_line(rt: HostRuntime) {
+    assert!(rt; first_other(rt.alloc(), &FAULTS).is_none());
+}
+
+#[test]
+fn a_read_or_a_write_that_fails_is_told(rt: HostRuntime) {
     let mut failing = never_failing(FILES);
     failing.failing_reads = &[1];
-    let (status, written) = ran(rt.alloc(), &["stubs"], &failing)?;
-    assert_eq!(rt; status, Status::ReadFault);
-    assert_eq!(rt; written.as_slice(), b"fault ReadFault\n".as_slice());
+    assert!(rt; ends(rt.alloc(), &["stubs"], &failing, 4, b"fault ReadFault\n"));
     let mut failing = never_failing(FILES);
     failing.most = 7;
     failing.failing_writes = &[3];
-    let (status, written) = ran(rt.alloc(), &["stubs"], &failing)?;
-    assert_eq!(rt; status, Status::WriteFault);
-    assert_eq!(rt; written.as_slice(), b"interface File".as_slice());
-    Ok(())
+    assert!(rt; ends(rt.alloc(), &["stubs"], &failing, 5, b"interface File"));
 }
 
 #[test]
 fn too_many_lines_are_refused(rt: HostRuntime) -> Result<(), Fail> {
     let lines = vec![in rt.alloc(); b'\n'; 20_001]?;
-    let (number, written) = stubs(rt.alloc(), &lines)?;
-    assert_eq!(rt; number, 8);
-    assert_eq!(rt; written.as_slice(), b"fault TooLong\n".as_slice());
+    assert!(rt; stubs(rt.alloc(), &lines, 8, b"fault TooLong\n"));
     Ok(())
 }

@@ -64,72 +64,60 @@ pub fn ran(
     Ok((status, written))
 }
 
-#[test]
-fn an_empty_call_is_played(rt: HostRuntime) -> Result<(), Fail> {
-    let (status, written) = ran(rt.alloc(), &["replay"], &never_failing(EMPTY_CALL))?;
-    assert_eq!(rt; status, Status::Ok);
-    assert_eq!(rt; written.as_slice(), EMPTY_CALL_TRANSCRIPT);
-    Ok(())
+/// Whether a run ends with this number, and has written this.
+pub fn ends(alloc: Global, words: &[&str], outside: &Given, number: u8, transcript: &[u8]) -> bool {
+    match ran(alloc, words, outside) {
+        Ok((status, written)) => status.number() == number && written.as_slice() == transcript,
+        Err(_) => false,
+    }
 }
 
 #[test]
-fn short_reads_and_writes_change_nothing(rt: HostRuntime) -> Result<(), Fail> {
+fn an_empty_call_is_played(rt: HostRuntime) {
+    let given = never_failing(EMPTY_CALL);
+    assert!(rt; ends(rt.alloc(), &["replay"], &given, 0, EMPTY_CALL_TRANSCRIPT));
+}
+
+#[test]
+fn short_reads_and_writes_change_nothing(rt: HostRuntime) {
     let mut short = never_failing(EMPTY_CALL);
     short.most = 7;
-    let (status, written) = ran(rt.alloc(), &["replay"], &short)?;
-    assert_eq!(rt; status, Status::Ok);
-    assert_eq!(rt; written.as_slice(), EMPTY_CALL_TRANSCRIPT);
-    Ok(())
+    assert!(rt; ends(rt.alloc(), &["replay"], &short, 0, EMPTY_CALL_TRANSCRIPT));
 }
 
 #[test]
-fn a_source_that_fails_is_told(rt: HostRuntime) -> Result<(), Fail> {
+fn a_source_that_fails_is_told(rt: HostRuntime) {
     let mut failing = never_failing(EMPTY_CALL);
     failing.failing_reads = &[1];
-    let (status, written) = ran(rt.alloc(), &["replay"], &failing)?;
-    assert_eq!(rt; status.number(), 4);
-    assert_eq!(rt; written.as_slice(), b"fault ReadFault\n".as_slice());
-    Ok(())
+    assert!(rt; ends(rt.alloc(), &["replay"], &failing, 4, b"fault ReadFault\n"));
 }
 
 #[test]
-fn a_sink_that_fails_at_once_takes_nothing(rt: HostRuntime) -> Result<(), Fail> {
+fn a_sink_that_fails_at_once_takes_nothing(rt: HostRuntime) {
     let mut failing = never_failing(EMPTY_CALL);
     failing.failing_writes = &[1];
-    let (status, written) = ran(rt.alloc(), &["replay"], &failing)?;
-    assert_eq!(rt; status.number(), 5);
-    assert_eq!(rt; written.len(), 0);
-    Ok(())
+    assert!(rt; ends(rt.alloc(), &["replay"], &failing, 5, b""));
 }
 
 #[test]
-fn a_sink_that_fails_in_mid_stream_has_a_prefix(rt: HostRuntime) -> Result<(), Fail> {
+fn a_sink_that_fails_in_mid_stream_has_a_prefix(rt: HostRuntime) {
     let mut failing = never_failing(EMPTY_CALL);
     failing.failing_writes = &[3];
     failing.most = 20;
-    let (status, written) = ran(rt.alloc(), &["replay"], &failing)?;
-    assert_eq!(rt; status.number(), 5);
-    assert_eq!(rt;
-        written.as_slice(),
-        b"start 2.1 65536\npacket 1 2>1 call 65536/".as_slice()
-    );
-    Ok(())
+    let prefix = b"start 2.1 65536\npacket 1 2>1 call 65536/";
+    assert!(rt; ends(rt.alloc(), &["replay"], &failing, 5, prefix));
 }
 
 #[test]
 fn one_byte_above_the_limit_is_too_long(rt: HostRuntime) -> Result<(), Fail> {
     let input = vec![in rt.alloc(); b'#'; 1_048_577]?;
-    let (status, written) = ran(rt.alloc(), &["replay"], &never_failing(&input))?;
-    assert_eq!(rt; status.number(), 8);
-    assert_eq!(rt; written.as_slice(), b"fault TooLong\n".as_slice());
-    let (status, written) = ran(rt.alloc(), &["replay"], &never_failing(&input[1..]))?;
-    assert_eq!(rt; status.number(), 3);
-    assert_eq!(rt; written.as_slice(), b"fault BadText 1 7\n".as_slice());
+    assert!(rt; is_refused(rt.alloc(), &input, 8, b"fault TooLong\n"));
+    assert!(rt; is_refused(rt.alloc(), &input[1..], 3, b"fault BadText 1 7\n"));
     Ok(())
 }
 
 #[test]
-fn other_words_are_refused(rt: HostRuntime) -> Result<(), Fail> {
+fn other_words_are_refused(rt: HostRuntime) {
     let table: [&[&str]; 5] = [
         &[],
         &["replay", "replay"],
@@ -138,65 +126,58 @@ fn other_words_are_refused(rt: HostRuntime) -> Result<(), Fail> {
         &["storm", "--seed=1"],
     ];
     for words in table {
-        let (status, written) = ran(rt.alloc(), words, &never_failing(EMPTY_CALL))?;
-        assert_eq!(rt; status.number(), 2);
-        assert_eq!(rt; written.as_slice(), b"fault Usage\n".as_slice());
+        let given = never_failing(EMPTY_CALL);
+        assert!(rt; ends(rt.alloc(), words, &given, 2, b"fault Usage\n"));
     }
-    Ok(())
 }
 
 #[test]
-fn a_storm_is_played_by_its_words(rt: HostRuntime) -> Result<(), Fail> {
+fn a_storm_is_played_by_its_words(rt: HostRuntime) {
     let words = ["storm", "--calls", "100", "--seed=1"];
-    let (status, written) = ran(rt.alloc(), &words, &never_failing(EMPTY_CALL))?;
-    assert_eq!(rt; status, Status::Ok);
-    assert_eq!(rt; written.as_slice(), SMALL_SUMMARY);
-    Ok(())
+    let given = never_failing(EMPTY_CALL);
+    assert!(rt; ends(rt.alloc(), &words, &given, 0, SMALL_SUMMARY));
 }
 
-/// How a run over this text ends, and what it has written.
-pub fn refused(alloc: Global, text: &[u8]) -> Result<(u8, Vec<u8>), AllocError> {
-    let (status, written) = ran(alloc, &["replay"], &never_failing(text))?;
-    Ok((status.number(), written))
+/// Whether a run over this text ends with this number, and has written this line.
+fn is_refused(alloc: Global, text: &[u8], number: u8, line: &[u8]) -> bool {
+    ends(alloc, &["replay"], &never_failing(text), number, line)
 }
 
 #[test]
-fn a_text_is_refused_at_its_first_fault(rt: HostRuntime) -> Result<(), Fail> {
-    let table: [(&[u8], &str); 6] = [
-        (b"", "fault BadText 1 7\n"),
-        (b"call 2 1 null\ndeliv", "fault BadText 2 1\n"),
-        (b"end\njournal\n", "fault BadText 2 6\n"),
-        (b"deliver 01\nend\n", "fault BadText 1 3\n"),
-        (b"call 2 9 null\nend\n", "fault BadText 1 4\n"),
-        (b"journal\nholders\nend\n", "fault BadText 2 9\n"),
+fn a_text_is_refused_at_its_first_fault(rt: HostRuntime) {
+    let table: [(&[u8], &[u8]); 7] = [
+        (b"", b"fault BadText 1 7\n"),
+        (b"call 2 1 null\ndeliv", b"fault BadText 2 1\n"),
+        (b"end\njournal\n", b"fault BadText 2 6\n"),
+        (b"deliver 01\nend\n", b"fault BadText 1 3\n"),
+        (b"call 2 9 null\nend\n", b"fault BadText 1 4\n"),
+        // A text of one byte too many.
+        (b"call 2 1 maxarg 92157\nend\n", b"fault BadText 1 4\n"),
+        (b"journal\nholders\nend\n", b"fault BadText 2 9\n"),
     ];
     for (text, line) in table {
-        let (number, written) = refused(rt.alloc(), text)?;
-        assert_eq!(rt; number, 3);
-        assert_eq!(rt; written.as_slice(), line.as_bytes());
+        assert!(rt; is_refused(rt.alloc(), text, 3, line));
     }
-    Ok(())
 }
 
 #[test]
 fn one_line_above_the_limit_is_too_long(rt: HostRuntime) -> Result<(), Fail> {
     let lines = vec![in rt.alloc(); b'\n'; 20_001]?;
-    let (number, written) = refused(rt.alloc(), &lines)?;
-    assert_eq!(rt; number, 8);
-    assert_eq!(rt; written.as_slice(), b"fault TooLong\n".as_slice());
-    let (number, written) = refused(rt.alloc(), &lines[1..])?;
-    assert_eq!(rt; number, 3);
-    assert_eq!(rt; written.as_slice(), b"fault BadText 20001 7\n".as_slice());
+    assert!(rt; is_refused(rt.alloc(), &lines, 8, b"fault TooLong\n"));
+    assert!(rt; is_refused(rt.alloc(), &lines[1..], 3, b"fault BadText 20001 7\n"));
     Ok(())
 }
 
 #[test]
-fn an_end_alone_is_a_script(rt: HostRuntime) -> Result<(), Fail> {
-    let (status, written) = ran(rt.alloc(), &["replay"], &never_failing(b"end\n"))?;
-    assert_eq!(rt; status, Status::Ok);
-    assert_eq!(rt;
-        written.as_slice(),
-        b"end runs 0 returned 0 signalled 0 failed 0 refused 0\n".as_slice()
+fn an_end_alone_is_a_script(rt: HostRuntime) {
+    let transcript = b"end runs 0 returned 0 signalled 0 failed 0 refused 0\n";
+    assert!(rt;
+        ends(
+            rt.alloc(),
+            &["replay"],
+            &never_failing(b"end\n"),
+            0,
+            transcript
+        )
     );
-    Ok(())
 }
