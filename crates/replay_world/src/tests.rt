@@ -23,6 +23,29 @@ returned 2.1 65536 0:\n\
 run 1 2.1 65536 null 0: -> 0:\n\
 end runs 1 returned 1 signalled 0 failed 0 refused 0\n";
 
+/// A world of few packets steps by an event.
+fn applied(
+    alloc: Global,
+    world: &mut World,
+    event: &Event,
+    out: &mut Vec<u8>,
+) -> Result<(), AllocError>
+    requires in_range { InRange event.now }
+    requires few { AllBelow 100000 world.old }
+    ensures { OnOk result (RoseByAtMost 1000 world.old world.new) }
+{
+    world.apply(alloc, event, out)
+}
+
+/// The same, and nothing is told.
+fn played(alloc: Global, world: &mut World, event: &Event) -> Result<(), AllocError>
+    requires in_range { InRange event.now }
+    requires few { AllBelow 100000 world.old }
+    ensures { OnOk result (RoseByAtMost 1000 world.old world.new) }
+{
+    world.play(alloc, event)
+}
+
 #[test]
 fn the_empty_call(rt: HostRuntime) -> Result<(), Fail> {
     let alloc = rt.alloc();
@@ -33,16 +56,16 @@ fn the_empty_call(rt: HostRuntime) -> Result<(), Fail> {
         process: 1,
         word: CallWord::Null,
     };
-    world.apply(alloc, &call, &mut out)?;
-    world.apply(alloc, &Event::Deliver(1), &mut out)?;
-    world.apply(alloc, &Event::Work(1), &mut out)?;
-    world.apply(alloc, &Event::Work(1), &mut out)?;
-    world.apply(alloc, &Event::Work(1), &mut out)?;
-    world.apply(alloc, &Event::Work(1), &mut out)?;
-    world.apply(alloc, &Event::Deliver(2), &mut out)?;
-    world.apply(alloc, &Event::Journal, &mut out)?;
-    world.apply(alloc, &Event::End, &mut out)?;
-    assert_eq!(rt; out.as_slice(), EMPTY_CALL);
+    applied(alloc, &mut world, &call, &mut out)?;
+    applied(alloc, &mut world, &Event::Deliver(1), &mut out)?;
+    applied(alloc, &mut world, &Event::Work(1), &mut out)?;
+    applied(alloc, &mut world, &Event::Work(1), &mut out)?;
+    applied(alloc, &mut world, &Event::Work(1), &mut out)?;
+    applied(alloc, &mut world, &Event::Work(1), &mut out)?;
+    applied(alloc, &mut world, &Event::Deliver(2), &mut out)?;
+    applied(alloc, &mut world, &Event::Journal, &mut out)?;
+    applied(alloc, &mut world, &Event::End, &mut out)?;
+    assert!(rt; out.as_slice() == EMPTY_CALL);
     Ok(())
 }
 
@@ -82,18 +105,18 @@ fn the_first_packet_is_forgotten(rt: HostRuntime) -> Result<(), Fail> {
         call_in_vain(alloc, &mut world, process)?;
     }
     world.play(alloc, &null_call(3, 1))?;
-    assert_eq!(rt; world.counts().failed, 8);
+    assert!(rt; world.counts().failed == 8);
     world.forget();
-    assert_eq!(rt; world.packets(), 65);
-    assert_eq!(rt; KEPT_PACKETS, 64);
-    assert_eq!(rt; world.length(0), None);
-    assert_eq!(rt; world.length(1), None);
-    assert_eq!(rt; world.length(2), Some(74));
-    assert_eq!(rt; world.length(65), Some(74));
-    assert_eq!(rt; world.length(66), None);
+    assert!(rt; world.packets() == 65);
+    assert!(rt; KEPT_PACKETS == 64);
+    assert!(rt; world.length(0).is_none());
+    assert!(rt; world.length(1).is_none());
+    assert!(rt; world.length(2) == Some(74));
+    assert!(rt; world.length(65) == Some(74));
+    assert!(rt; world.length(66).is_none());
     let mut out = Vec::new(alloc);
     world.apply(alloc, &Event::Deliver(2), &mut out)?;
-    assert_eq!(rt; out.as_slice(), b"ready 2\n".as_slice());
+    assert!(rt; out.as_slice() == b"ready 2\n".as_slice());
     Ok(())
 }
 
@@ -102,24 +125,24 @@ fn the_first_packet_is_forgotten(rt: HostRuntime) -> Result<(), Fail> {
 fn a_restart_loses_the_open_call(rt: HostRuntime) -> Result<(), Fail> {
     let alloc = rt.alloc();
     let mut world = World::make(alloc, 256, 72)?;
-    world.play(alloc, &null_call(9, 8))?;
+    played(alloc, &mut world, &null_call(9, 8))?;
     let name = read_name(b"main").ok_or("a name")?;
     let bind = Event::Bind {
         machine: 9,
         process: 1,
         name,
     };
-    world.play(alloc, &bind)?;
-    assert_eq!(rt; world.is_idle(9, 8), false);
-    assert_eq!(rt; world.is_idle(9, 1), false);
-    assert_eq!(rt; world.is_idle(9, 2), true);
-    world.play(alloc, &Event::Restart(9))?;
-    assert_eq!(rt; world.counts().lost, 0);
-    world.play(alloc, &Event::Second(2))?;
-    world.play(alloc, &Event::Restart(9))?;
-    assert_eq!(rt; world.second(), 2);
-    assert_eq!(rt; world.is_idle(9, 8), true);
-    assert_eq!(rt; world.counts().started, 1);
-    assert_eq!(rt; world.counts().lost, 1);
+    played(alloc, &mut world, &bind)?;
+    assert!(rt; !world.is_idle(9, 8));
+    assert!(rt; !world.is_idle(9, 1));
+    assert!(rt; world.is_idle(9, 2));
+    played(alloc, &mut world, &Event::Restart(9))?;
+    assert!(rt; world.counts().lost == 0);
+    played(alloc, &mut world, &Event::Second(2))?;
+    played(alloc, &mut world, &Event::Restart(9))?;
+    assert!(rt; world.second() == 2);
+    assert!(rt; world.is_idle(9, 8));
+    assert!(rt; world.counts().started == 1);
+    assert!(rt; world.counts().lost == 1);
     Ok(())
 }
