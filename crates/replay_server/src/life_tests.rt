@@ -34,12 +34,9 @@ fn a_name_is_exported_once_and_not_too_fast(rt: HostRuntime) -> Result<(), Fail>
         identifier: 2,
         index: 1,
     };
-    assert_eq!(rt;
-        export(alloc, &mut server, b"main", 1)?,
-        Err(ExportFault::Exists)
-    );
-    assert_eq!(rt; export(alloc, &mut server, b"aux", 1)?, Err(too_fast));
-    assert_eq!(rt; export(alloc, &mut server, b"aux", 2)?, Ok(second));
+    assert!(rt; export(alloc, &mut server, b"main", 1)? == Err(ExportFault::Exists));
+    assert!(rt; export(alloc, &mut server, b"aux", 1)? == Err(too_fast));
+    assert!(rt; export(alloc, &mut server, b"aux", 2)? == Ok(second));
     Ok(())
 }
 
@@ -57,26 +54,23 @@ fn letters_exported(alloc: Global, server: &mut ServerMachine) -> Result<u8, Fai
 fn at_most_16_names_are_exported(rt: HostRuntime) -> Result<(), Fail> {
     let alloc = rt.alloc();
     let mut server = booted(alloc)?;
-    assert_eq!(rt; letters_exported(alloc, &mut server)?, 15);
-    assert_eq!(rt;
-        export(alloc, &mut server, b"z", 16)?,
-        Err(ExportFault::Full)
-    );
-    assert_eq!(rt; server.withdraw(name(b"main")?), Some(0));
+    assert!(rt; letters_exported(alloc, &mut server)? == 15);
+    assert!(rt; export(alloc, &mut server, b"z", 16)? == Err(ExportFault::Full));
+    assert!(rt; server.withdraw(name(b"main")?) == Some(0));
     let in_its_row = Export {
         identifier: 17,
         index: 0,
     };
-    assert_eq!(rt; export(alloc, &mut server, b"z", 17)?, Ok(in_its_row));
+    assert!(rt; export(alloc, &mut server, b"z", 17)? == Ok(in_its_row));
     Ok(())
 }
 
 #[test]
 fn a_name_that_is_not_exported_is_not_withdrawn(rt: HostRuntime) -> Result<(), Fail> {
     let mut server = booted(rt.alloc())?;
-    assert_eq!(rt; server.withdraw(name(b"aux")?), None);
-    assert_eq!(rt; server.withdraw(name(b"main")?), Some(0));
-    assert_eq!(rt; server.withdraw(name(b"main")?), None);
+    assert!(rt; server.withdraw(name(b"aux")?).is_none());
+    assert!(rt; server.withdraw(name(b"main")?) == Some(0));
+    assert!(rt; server.withdraw(name(b"main")?).is_none());
     Ok(())
 }
 
@@ -118,7 +112,7 @@ static WITHDRAWN: [Line; 15] = [
 #[test]
 fn a_withdrawn_export_refuses_its_calls(rt: HostRuntime) -> Result<(), Fail> {
     let mut server = booted(rt.alloc())?;
-    assert_eq!(rt; first_other(rt.alloc(), &mut server, &WITHDRAWN)?, None);
+    assert!(rt; first_other(rt.alloc(), &mut server, &WITHDRAWN)?.is_none());
     Ok(())
 }
 
@@ -126,15 +120,12 @@ fn a_withdrawn_export_refuses_its_calls(rt: HostRuntime) -> Result<(), Fail> {
 fn a_restart_comes_at_a_later_second_than_any_read(rt: HostRuntime) -> Result<(), Fail> {
     let alloc = rt.alloc();
     let mut server = booted(alloc)?;
-    assert_eq!(rt; server.restart(alloc, 1)?, false);
-    assert_eq!(rt;
-        export(alloc, &mut server, b"main", 7)?,
-        Err(ExportFault::Exists)
-    );
-    assert_eq!(rt; server.restart(alloc, 7)?, false);
-    assert_eq!(rt; server.restart(alloc, 8)?, true);
+    assert!(rt; !server.restart(alloc, 1)?);
+    assert!(rt; export(alloc, &mut server, b"main", 7)? == Err(ExportFault::Exists));
+    assert!(rt; !server.restart(alloc, 7)?);
+    assert!(rt; server.restart(alloc, 8)?);
     let too_fast = ExportFault::TooFast { next: 9, now: 8 };
-    assert_eq!(rt; export(alloc, &mut server, b"aux", 8)?, Err(too_fast));
+    assert!(rt; export(alloc, &mut server, b"aux", 8)? == Err(too_fast));
     Ok(())
 }
 
@@ -195,8 +186,8 @@ static IN_PIECES: [Line; 6] = [
 
 #[test]
 fn a_restart_forgets_each_state_of_workers_and_entries(rt: HostRuntime) -> Result<(), Fail> {
-    assert_eq!(rt; first_kept(rt.alloc(), &WHOLE)?, None);
-    assert_eq!(rt; first_kept(rt.alloc(), &IN_PIECES)?, None);
+    assert!(rt; first_kept(rt.alloc(), &WHOLE)?.is_none());
+    assert!(rt; first_kept(rt.alloc(), &IN_PIECES)?.is_none());
     Ok(())
 }
 

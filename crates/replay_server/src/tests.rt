@@ -51,9 +51,9 @@ fn a_bind_is_answered(rt: HostRuntime) -> Result<(), Fail> {
         ..found
     };
     let step = bind(rt.alloc(), b"\x04Test\x04main")?;
-    assert_eq!(rt; step, Some((Did::Answers, Added::Packet(found))));
+    assert!(rt; step == Some((Did::Answers, Added::Packet(found))));
     let step = bind(rt.alloc(), b"\x04Test\x03aux")?;
-    assert_eq!(rt; step, Some((Did::Answers, Added::Packet(unknown))));
+    assert!(rt; step == Some((Did::Answers, Added::Packet(unknown))));
     let bad = Some((Did::Drops(Unfit::BadName), Added::Nothing));
     for data in [
         b"".as_slice(),
@@ -63,7 +63,7 @@ fn a_bind_is_answered(rt: HostRuntime) -> Result<(), Fail> {
         b"\x04Test\x05main",
         b"\x04Te-t\x04main",
     ] {
-        assert_eq!(rt; bind(rt.alloc(), data)?, bad, "{data:?}");
+        assert!(rt; bind(rt.alloc(), data)? == bad, "{data:?}");
     }
     Ok(())
 }
@@ -125,7 +125,7 @@ fn calls_that_the_exports_refuse(rt: HostRuntime) -> Result<(), Fail> {
     assert!(rt; all_are_refused(alloc, NO_EXPORT, 0, 1)?);
     assert!(rt; all_are_refused(alloc, SERVICE, 5, 2)?);
     let step = ask(alloc, CALL, SERVICE, 4)?;
-    assert_eq!(rt; step, Some((Did::Claims, Added::Nothing)));
+    assert!(rt; step == Some((Did::Claims, Added::Nothing)));
     Ok(())
 }
 
@@ -154,12 +154,12 @@ fn activities_without_an_entry(rt: HostRuntime) -> Result<(), Fail> {
     let full = Some((Did::Drops(Unfit::Full), Added::Nothing));
     let last = Station { machine: 9 };
     let behind = Station { machine: 10 };
-    assert_eq!(rt; call_from(alloc, CLIENT, 8)?, claims);
-    assert_eq!(rt; call_from(alloc, last, 8)?, claims);
-    assert_eq!(rt; call_from(alloc, CLIENT, 0)?, full);
-    assert_eq!(rt; call_from(alloc, CLIENT, 9)?, full);
-    assert_eq!(rt; call_from(alloc, behind, 1)?, full);
-    assert_eq!(rt; call_from(alloc, SERVER, 1)?, full);
+    assert!(rt; call_from(alloc, CLIENT, 8)? == claims);
+    assert!(rt; call_from(alloc, last, 8)? == claims);
+    assert!(rt; call_from(alloc, CLIENT, 0)? == full);
+    assert!(rt; call_from(alloc, CLIENT, 9)? == full);
+    assert!(rt; call_from(alloc, behind, 1)? == full);
+    assert!(rt; call_from(alloc, SERVER, 1)? == full);
     Ok(())
 }
 
@@ -178,10 +178,10 @@ fn calls_taken(alloc: Global, server: &mut ServerMachine) -> Result<usize, Fail>
 fn at_most_64_packets_are_ready(rt: HostRuntime) -> Result<(), Fail> {
     let alloc = rt.alloc();
     let mut server = booted(alloc)?;
-    assert_eq!(rt; calls_taken(alloc, &mut server)?, 64);
+    assert!(rt; calls_taken(alloc, &mut server)? == 64);
     let step = told(&server.work(alloc, 4)?);
-    assert_eq!(rt; step, Some((Did::Claims, Added::Nothing)));
-    assert_eq!(rt; calls_taken(alloc, &mut server)?, 1);
+    assert!(rt; step == Some((Did::Claims, Added::Nothing)));
+    assert!(rt; calls_taken(alloc, &mut server)? == 1);
     Ok(())
 }
 
@@ -228,18 +228,9 @@ fn a_kept_reply_is_sent_piece_by_piece(rt: HostRuntime) -> Result<(), Fail> {
         ..RESULT
     };
     let last = ServerPacket { len: 1, ..whole };
-    assert_eq!(rt;
-        fetch(alloc, 0, &reply)?,
-        (Did::Resends, Added::Packet(last))
-    );
-    assert_eq!(rt;
-        fetch(alloc, 1, &reply)?,
-        (Did::Drops(Unfit::Same), Added::Nothing)
-    );
-    assert_eq!(rt;
-        fetch(alloc, 63, &reply)?,
-        (Did::Drops(Unfit::Same), Added::Nothing)
-    );
+    assert!(rt; fetch(alloc, 0, &reply)? == (Did::Resends, Added::Packet(last)));
+    assert!(rt; fetch(alloc, 1, &reply)? == (Did::Drops(Unfit::Same), Added::Nothing));
+    assert!(rt; fetch(alloc, 63, &reply)? == (Did::Drops(Unfit::Same), Added::Nothing));
     let longer = [3; 2881];
     let middle = ServerPacket {
         please_ack: true,
@@ -247,10 +238,7 @@ fn a_kept_reply_is_sent_piece_by_piece(rt: HostRuntime) -> Result<(), Fail> {
         len: 1440,
         ..whole
     };
-    assert_eq!(rt;
-        fetch(alloc, 0, &longer)?,
-        (Did::Resends, Added::Packet(middle))
-    );
+    assert!(rt; fetch(alloc, 0, &longer)? == (Did::Resends, Added::Packet(middle)));
     Ok(())
 }
 
@@ -269,13 +257,13 @@ fn served(
 #[test]
 fn the_service_adds_up(rt: HostRuntime) -> Result<(), Fail> {
     let (reply, signal, total) = served(rt.alloc(), 7, 2, &[0, 0, 1, 0])?;
-    assert_eq!(rt; reply.as_slice(), [0, 0, 1, 7].as_slice());
-    assert_eq!(rt; (signal, total), (false, 263));
+    assert!(rt; reply.as_slice() == [0, 0, 1, 7].as_slice());
+    assert!(rt; (signal, total) == (false, 263));
     let (reply, signal, total) = served(rt.alloc(), 0xffff_ff00, 2, &[0, 0, 1, 0])?;
-    assert_eq!(rt; reply.as_slice(), [0, 1].as_slice());
-    assert_eq!(rt; (signal, total), (true, 0xffff_ff00));
+    assert!(rt; reply.as_slice() == [0, 1].as_slice());
+    assert!(rt; (signal, total) == (true, 0xffff_ff00));
     let (reply, signal, _) = served(rt.alloc(), 7, 1, &[0, 0, 0, 2, 255, 255, 255, 253])?;
-    assert_eq!(rt; reply.as_slice(), [255; 4].as_slice());
-    assert_eq!(rt; signal, false);
+    assert!(rt; reply.as_slice() == [255; 4].as_slice());
+    assert!(rt; !signal);
     Ok(())
 }
