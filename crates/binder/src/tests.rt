@@ -71,7 +71,7 @@ fn names_are_letters_and_digits_behind_a_letter(rt: HostRuntime) {
         b"a:",
     ];
     for bytes in others {
-        assert_eq!(rt; read_name(bytes), None);
+        assert!(rt; read_name(bytes).is_none());
     }
 }
 
@@ -79,14 +79,14 @@ fn names_are_letters_and_digits_behind_a_letter(rt: HostRuntime) {
 fn the_data_of_a_bind_is_written(rt: HostRuntime) -> Result<(), Fail> {
     let name = interface(b"aux").ok_or("a name")?;
     let mut bytes = [0xff; BIND_DATA_LIMIT];
-    assert_eq!(rt; write_bind_data(&name, &mut bytes), 9);
-    assert_eq!(rt; bytes.get(..10), Some(b"\x04Test\x03aux\xff".as_slice()));
+    assert!(rt; write_bind_data(&name, &mut bytes) == 9);
+    assert!(rt; bytes.get(..10) == Some(b"\x04Test\x03aux\xff".as_slice()));
     Ok(())
 }
 
 #[test]
 fn the_data_of_a_bind_is_read(rt: HostRuntime) {
-    assert_eq!(rt; read_bind_data(b"\x04Test\x03aux"), interface(b"aux"));
+    assert!(rt; read_bind_data(b"\x04Test\x03aux") == interface(b"aux"));
     let others = [
         b"".as_slice(),
         b"\x04Test",
@@ -97,46 +97,46 @@ fn the_data_of_a_bind_is_read(rt: HostRuntime) {
         b"\x04Test\x031ux",
     ];
     for bytes in others {
-        assert_eq!(rt; read_bind_data(bytes), None);
+        assert!(rt; read_bind_data(bytes).is_none());
     }
 }
 
 #[test]
 fn a_name_is_exported_once(rt: HostRuntime) {
     let mut exports = Exports::boot(1);
-    assert_eq!(rt; find(&exports, b"aux"), None);
-    assert_eq!(rt; export(&mut exports, rt.alloc(), b"main", 1), made(1, 0));
+    assert!(rt; find(&exports, b"aux").is_none());
+    assert!(rt; export(&mut exports, rt.alloc(), b"main", 1) == made(1, 0));
     let early = export(&mut exports, rt.alloc(), b"aux", 1);
-    assert_eq!(rt; early, Some(Err(ExportFault::TooFast { next: 2, now: 1 })));
-    assert_eq!(rt; find(&exports, b"aux"), None);
-    assert_eq!(rt; export(&mut exports, rt.alloc(), b"aux", 2), made(2, 1));
+    assert!(rt; early == Some(Err(ExportFault::TooFast { next: 2, now: 1 })));
+    assert!(rt; find(&exports, b"aux").is_none());
+    assert!(rt; export(&mut exports, rt.alloc(), b"aux", 2) == made(2, 1));
     let again = export(&mut exports, rt.alloc(), b"aux", 2);
-    assert_eq!(rt; again, Some(Err(ExportFault::Exists)));
-    assert_eq!(rt; find(&exports, b"aux"), bound(2, 1));
+    assert!(rt; again == Some(Err(ExportFault::Exists)));
+    assert!(rt; find(&exports, b"aux") == bound(2, 1));
 }
 
 #[test]
 fn a_call_is_judged_by_its_row(rt: HostRuntime) {
     let mut exports = Exports::boot(1);
-    assert_eq!(rt; judge(&exports, 1, 0, 0), Verdict::WrongBinding);
-    assert_eq!(rt; export(&mut exports, rt.alloc(), b"main", 1), made(1, 0));
-    assert_eq!(rt; judge(&exports, 1, 0, 2), Verdict::Accepted);
-    assert_eq!(rt; judge(&exports, 1, 0, 3), Verdict::NoProcedure);
-    assert_eq!(rt; judge(&exports, 2, 0, 0), Verdict::WrongBinding);
-    assert_eq!(rt; judge(&exports, 1, 16, 0), Verdict::WrongBinding);
+    assert!(rt; judge(&exports, 1, 0, 0) == Verdict::WrongBinding);
+    assert!(rt; export(&mut exports, rt.alloc(), b"main", 1) == made(1, 0));
+    assert!(rt; judge(&exports, 1, 0, 2) == Verdict::Accepted);
+    assert!(rt; judge(&exports, 1, 0, 3) == Verdict::NoProcedure);
+    assert!(rt; judge(&exports, 2, 0, 0) == Verdict::WrongBinding);
+    assert!(rt; judge(&exports, 1, 16, 0) == Verdict::WrongBinding);
 }
 
 #[test]
 fn a_withdrawn_row_is_used_again(rt: HostRuntime) {
     let mut exports = Exports::boot(1);
-    assert_eq!(rt; export(&mut exports, rt.alloc(), b"main", 9), made(1, 0));
-    assert_eq!(rt; export(&mut exports, rt.alloc(), b"aux", 9), made(2, 1));
-    assert_eq!(rt; withdraw(&mut exports, b"main"), bound(1, 0));
-    assert_eq!(rt; withdraw(&mut exports, b"main"), None);
-    assert_eq!(rt; judge(&exports, 1, 0, 0), Verdict::WrongBinding);
-    assert_eq!(rt; find(&exports, b"aux"), bound(2, 1));
-    assert_eq!(rt; export(&mut exports, rt.alloc(), b"main", 9), made(3, 0));
-    assert_eq!(rt; judge(&exports, 1, 0, 0), Verdict::WrongBinding);
+    assert!(rt; export(&mut exports, rt.alloc(), b"main", 9) == made(1, 0));
+    assert!(rt; export(&mut exports, rt.alloc(), b"aux", 9) == made(2, 1));
+    assert!(rt; withdraw(&mut exports, b"main") == bound(1, 0));
+    assert!(rt; withdraw(&mut exports, b"main").is_none());
+    assert!(rt; judge(&exports, 1, 0, 0) == Verdict::WrongBinding);
+    assert!(rt; find(&exports, b"aux") == bound(2, 1));
+    assert!(rt; export(&mut exports, rt.alloc(), b"main", 9) == made(3, 0));
+    assert!(rt; judge(&exports, 1, 0, 0) == Verdict::WrongBinding);
 }
 
 #[test]
@@ -147,22 +147,22 @@ fn sixteen_rows_are_all(rt: HostRuntime) {
         assert!(rt; answer.is_some_and(|made| made.is_ok()));
     }
     let full = export(&mut exports, rt.alloc(), b"q", 0);
-    assert_eq!(rt; full, Some(Err(ExportFault::Full)));
+    assert!(rt; full == Some(Err(ExportFault::Full)));
     let again = export(&mut exports, rt.alloc(), b"p", 0);
-    assert_eq!(rt; again, Some(Err(ExportFault::Exists)));
-    assert_eq!(rt; withdraw(&mut exports, b"f"), bound(12, 5));
-    assert_eq!(rt; export(&mut exports, rt.alloc(), b"q", 23), made(23, 5));
+    assert!(rt; again == Some(Err(ExportFault::Exists)));
+    assert!(rt; withdraw(&mut exports, b"f") == bound(12, 5));
+    assert!(rt; export(&mut exports, rt.alloc(), b"q", 23) == made(23, 5));
 }
 
 #[test]
 fn identifiers_rise_past_the_last_second(rt: HostRuntime) {
     let mut exports = Exports::boot(u32::MAX);
     let last = export(&mut exports, rt.alloc(), b"main", u32::MAX);
-    assert_eq!(rt; last, made(u32::MAX, 0));
+    assert!(rt; last == made(u32::MAX, 0));
     let late = export(&mut exports, rt.alloc(), b"aux", u32::MAX);
     let fault = ExportFault::TooFast {
         next: 1 << 32,
         now: u32::MAX,
     };
-    assert_eq!(rt; late, Some(Err(fault)));
+    assert!(rt; late == Some(Err(fault)));
 }

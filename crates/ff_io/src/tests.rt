@@ -18,19 +18,19 @@ fn sink_of(alloc: Global, fail: &[u64], room: usize) -> Result<MemorySink, Alloc
 fn the_listed_calls_fail(rt: HostRuntime) -> Result<(), Fail> {
     let mut source = source_of(rt.alloc(), b"abcde", &[1, 3])?;
     let mut into = [0u8; 2];
-    assert_eq!(rt; source.read(&mut into), Err(ReadFailed));
-    assert_eq!(rt; source.read(&mut into), Ok(2));
-    assert_eq!(rt; into.as_slice(), b"ab".as_slice());
-    assert_eq!(rt; source.read(&mut into), Err(ReadFailed));
-    assert_eq!(rt; source.left(), b"cde".as_slice());
-    assert_eq!(rt; source.faults(), 2);
+    assert!(rt; source.read(&mut into) == Err(ReadFailed));
+    assert!(rt; source.read(&mut into) == Ok(2));
+    assert!(rt; into.as_slice() == b"ab".as_slice());
+    assert!(rt; source.read(&mut into) == Err(ReadFailed));
+    assert!(rt; source.left() == b"cde".as_slice());
+    assert!(rt; source.faults() == 2);
 
     let mut sink = sink_of(rt.alloc(), &[2], 5)?;
-    assert_eq!(rt; sink.write(b"ab"), Ok(2));
-    assert_eq!(rt; sink.write(b"cd"), Err(WriteFailed));
-    assert_eq!(rt; sink.write(b"ef"), Ok(2));
-    assert_eq!(rt; sink.written(), b"abef".as_slice());
-    assert_eq!(rt; sink.faults(), 1);
+    assert!(rt; sink.write(b"ab") == Ok(2));
+    assert!(rt; sink.write(b"cd") == Err(WriteFailed));
+    assert!(rt; sink.write(b"ef") == Ok(2));
+    assert!(rt; sink.written() == b"abef".as_slice());
+    assert!(rt; sink.faults() == 1);
     Ok(())
 }
 
@@ -39,9 +39,8 @@ fn a_source_is_read_to_its_end(rt: HostRuntime) -> Result<(), Fail> {
     for (limit, want) in [(4, Err(ReadAll::TooLong)), (5, Ok(5)), (usize::MAX, Ok(5))] {
         let mut source = source_of(rt.alloc(), b"hello", &[])?;
         let got = read_all(rt.alloc(), &mut source, limit);
-        assert_eq!(rt;
-            got.map(|bytes| bytes.len()),
-            want,
+        assert!(rt;
+            got.map(|bytes| bytes.len()) == want,
             "with the limit {limit}"
         );
     }
@@ -50,12 +49,9 @@ fn a_source_is_read_to_its_end(rt: HostRuntime) -> Result<(), Fail> {
         long.push((i % 251) as u8)?;
     }
     let mut source = source_of(rt.alloc(), &long, &[])?;
-    assert_eq!(rt;
-        read_all(rt.alloc(), &mut source, 10_000)?.as_slice(),
-        long.as_slice()
-    );
+    assert!(rt; read_all(rt.alloc(), &mut source, 10_000)?.as_slice() == long.as_slice());
     let mut nothing = source_of(rt.alloc(), b"", &[])?;
-    assert_eq!(rt; read_all(rt.alloc(), &mut nothing, 0)?.len(), 0);
+    assert!(rt; read_all(rt.alloc(), &mut nothing, 0)?.len() == 0);
     Ok(())
 }
 
@@ -63,10 +59,7 @@ fn a_source_is_read_to_its_end(rt: HostRuntime) -> Result<(), Fail> {
 fn short_reads_are_read_on(rt: HostRuntime) -> Result<(), Fail> {
     let inner = source_of(rt.alloc(), b"hello", &[])?;
     let mut source = Short { inner, most: 2 };
-    assert_eq!(rt;
-        read_all(rt.alloc(), &mut source, 5)?.as_slice(),
-        b"hello".as_slice()
-    );
+    assert!(rt; read_all(rt.alloc(), &mut source, 5)?.as_slice() == b"hello".as_slice());
     Ok(())
 }
 
@@ -74,12 +67,9 @@ fn short_reads_are_read_on(rt: HostRuntime) -> Result<(), Fail> {
 fn a_read_that_fails_in_mid_stream_is_told(rt: HostRuntime) -> Result<(), Fail> {
     let inner = source_of(rt.alloc(), b"hello", &[2])?;
     let mut source = Short { inner, most: 2 };
-    assert_eq!(rt;
-        read_all(rt.alloc(), &mut source, 5).err(),
-        Some(ReadAll::Failed)
-    );
-    assert_eq!(rt; source.inner.faults(), 1);
-    assert_eq!(rt; source.inner.left(), b"llo".as_slice());
+    assert!(rt; read_all(rt.alloc(), &mut source, 5).err() == Some(ReadAll::Failed));
+    assert!(rt; source.inner.faults() == 1);
+    assert!(rt; source.inner.left() == b"llo".as_slice());
     Ok(())
 }
 
@@ -88,7 +78,7 @@ fn short_writes_are_written_on(rt: HostRuntime) -> Result<(), Fail> {
     let inner = sink_of(rt.alloc(), &[], 5)?;
     let mut sink = Short { inner, most: 2 };
     write_all(&mut sink, b"hello")?;
-    assert_eq!(rt; sink.inner.written(), b"hello".as_slice());
+    assert!(rt; sink.inner.written() == b"hello".as_slice());
     Ok(())
 }
 
@@ -96,9 +86,9 @@ fn short_writes_are_written_on(rt: HostRuntime) -> Result<(), Fail> {
 fn a_write_that_fails_in_mid_stream_leaves_a_prefix(rt: HostRuntime) -> Result<(), Fail> {
     let inner = sink_of(rt.alloc(), &[2], 5)?;
     let mut sink = Short { inner, most: 2 };
-    assert_eq!(rt; write_all(&mut sink, b"hello"), Err(WriteFailed));
-    assert_eq!(rt; sink.inner.written(), b"he".as_slice());
-    assert_eq!(rt; sink.inner.faults(), 1);
+    assert!(rt; write_all(&mut sink, b"hello") == Err(WriteFailed));
+    assert!(rt; sink.inner.written() == b"he".as_slice());
+    assert!(rt; sink.inner.faults() == 1);
     Ok(())
 }
 
@@ -108,20 +98,20 @@ fn what_the_room_holds_counts_as_written(rt: HostRuntime) -> Result<(), Fail> {
     room.extend_from_slice(b"old ")?;
     let mut sink = MemorySink::new(Vec::new(rt.alloc()), room);
     write_all(&mut sink, b"new")?;
-    assert_eq!(rt; sink.written(), b"old new".as_slice());
+    assert!(rt; sink.written() == b"old new".as_slice());
     Ok(())
 }
 
 #[test]
 fn a_sink_takes_no_more_than_its_room(rt: HostRuntime) -> Result<(), Fail> {
     let mut sink = sink_of(rt.alloc(), &[], 5)?;
-    assert_eq!(rt; sink.write(b"abc"), Ok(3));
-    assert_eq!(rt; sink.write(b"def"), Err(WriteFailed));
-    assert_eq!(rt; sink.write(b"de"), Ok(2));
-    assert_eq!(rt; sink.written(), b"abcde".as_slice());
-    assert_eq!(rt; sink.write(b""), Ok(0));
-    assert_eq!(rt; sink.write(b"f"), Err(WriteFailed));
-    assert_eq!(rt; sink.faults(), 2);
+    assert!(rt; sink.write(b"abc") == Ok(3));
+    assert!(rt; sink.write(b"def") == Err(WriteFailed));
+    assert!(rt; sink.write(b"de") == Ok(2));
+    assert!(rt; sink.written() == b"abcde".as_slice());
+    assert!(rt; sink.write(b"") == Ok(0));
+    assert!(rt; sink.write(b"f") == Err(WriteFailed));
+    assert!(rt; sink.faults() == 2);
     Ok(())
 }
 
@@ -130,11 +120,11 @@ fn a_station_is_a_machine(rt: HostRuntime) {
     let station = Station {
         machine: LAST_MACHINE,
     };
-    assert_eq!(rt; station.machine, 254);
-    assert_ne!(rt;
-        station,
-        Station {
-            machine: FIRST_MACHINE
-        }
+    assert!(rt; station.machine == 254);
+    assert!(rt;
+        station
+            != (Station {
+                machine: FIRST_MACHINE
+            })
     );
 }

@@ -41,14 +41,11 @@ fn pieces_are_gathered_in_their_order(rt: HostRuntime) -> Result<(), Fail> {
         (1, true, b"x".as_slice(), Pushed::Whole(1441), 1441, 2),
     ];
     for (i, last, part, pushed, len, next) in steps {
-        assert_eq!(rt;
-            add(&mut gathered, &mut buffer, i, last, part),
-            Some(pushed)
-        );
-        assert_eq!(rt; gathered, Gathered { len, next });
+        assert!(rt; add(&mut gathered, &mut buffer, i, last, part) == Some(pushed));
+        assert!(rt; gathered == (Gathered { len, next }));
     }
     assert!(rt; buffer.starts_with(&first));
-    assert_eq!(rt; buffer.get(1440..1442), Some(b"x\0".as_slice()));
+    assert!(rt; buffer.get(1440..1442) == Some(b"x\0".as_slice()));
     Ok(())
 }
 
@@ -68,18 +65,18 @@ fn what_is_cut_is_joined_again(rt: HostRuntime) -> Result<(), Fail> {
         let mut buffer = vec![in rt.alloc(); 0u8; LONG]?;
         let mut gathered = Gathered::default();
         assert!(rt; text.len() <= LONG);
-        assert_eq!(rt; count(text.len()), pieces);
+        assert!(rt; count(text.len()) == pieces);
         for i in 0..count(text.len()) {
             let part = piece(&text, i);
             let last = i + 1 == pieces;
-            assert_eq!(rt; part.len(), if last { last_len } else { 1440 });
+            assert!(rt; part.len() == if last { last_len } else { 1440 });
             let pushed = add(&mut gathered, &mut buffer, i, last, part);
             let want = if last {
                 Pushed::Whole(len)
             } else {
                 Pushed::More
             };
-            assert_eq!(rt; pushed, Some(want), "piece {i} of {len} bytes");
+            assert!(rt; pushed == Some(want), "piece {i} of {len} bytes");
         }
         assert!(rt; buffer.starts_with(&text));
     }

@@ -7,14 +7,14 @@ use std::test::Fail;
 #[test]
 fn a_vector_goes_in_and_comes_back(rt: HostRuntime) -> Result<(), Fail> {
     let mut items = Items::from(vec![in rt.alloc(); 3u32, 5, 8]?);
-    assert_eq!(rt; items.len(), 3);
+    assert!(rt; items.len() == 3);
     assert!(rt; !items.is_empty());
     for item in items.as_mut_slice() {
         *item ^= 1;
     }
-    assert_eq!(rt; items.as_slice(), [2, 4, 9].as_slice());
+    assert!(rt; items.as_slice() == [2, 4, 9].as_slice());
     let back = items.into_vec();
-    assert_eq!(rt; back.as_slice(), [2, 4, 9].as_slice());
+    assert!(rt; back.as_slice() == [2, 4, 9].as_slice());
     Ok(())
 }
 

@@ -95,8 +95,8 @@ fn the_arguments_of_add_are_put(rt: HostRuntime) -> Result<(), Fail> {
     let plan = add(rt.alloc())?;
     let values = vec![in rt.alloc(); Value::Number(1), Value::Number(2)]?;
     let mut room = [9; 9];
-    assert_eq!(rt; put(&plan, &values, &mut room), Ok(8));
-    assert_eq!(rt; room, [0, 0, 0, 1, 0, 0, 0, 2, 9]);
+    assert!(rt; put(&plan, &values, &mut room) == Ok(8));
+    assert!(rt; room == [0, 0, 0, 1, 0, 0, 0, 2, 9]);
     Ok(())
 }
 
@@ -140,9 +140,9 @@ fn a_count_is_at_most_its_limit(rt: HostRuntime) -> Result<(), Fail> {
 fn values_of_other_types_are_refused(rt: HostRuntime) -> Result<(), Fail> {
     let plan = add(rt.alloc())?;
     let one = vec![in rt.alloc(); Value::Number(1)]?;
-    assert_eq!(rt; put(&plan, &one, &mut [0; 7]), Err(PutFault::Shape));
+    assert!(rt; put(&plan, &one, &mut [0; 7]) == Err(PutFault::Shape));
     let grouped = vec![in rt.alloc(); group(rt.alloc(), &[1, 2])?]?;
-    assert_eq!(rt; put(&plan, &grouped, &mut [0; 7]), Err(PutFault::Shape));
+    assert!(rt; put(&plan, &grouped, &mut [0; 7]) == Err(PutFault::Shape));
     Ok(())
 }
 
@@ -150,7 +150,7 @@ fn values_of_other_types_are_refused(rt: HostRuntime) -> Result<(), Fail> {
 fn too_little_room_is_refused(rt: HostRuntime) -> Result<(), Fail> {
     let plan = add(rt.alloc())?;
     let two = vec![in rt.alloc(); Value::Number(1), Value::Number(2)]?;
-    assert_eq!(rt; put(&plan, &two, &mut [0; 7]), Err(PutFault::Room));
+    assert!(rt; put(&plan, &two, &mut [0; 7]) == Err(PutFault::Room));
     Ok(())
 }
 
@@ -231,8 +231,8 @@ fn an_array_of_records_is_put(rt: HostRuntime) -> Result<(), Fail> {
     let elements = vec![in alloc; group(alloc, &[1, 2])?, group(alloc, &[3, 4])?]?;
     let values = vec![in alloc; Value::Group(Values::new(elements))]?;
     let mut room = [9; 18];
-    assert_eq!(rt; put(&plan, &values, &mut room), Ok(18));
-    assert_eq!(rt; room, RECORDS);
+    assert!(rt; put(&plan, &values, &mut room) == Ok(18));
+    assert!(rt; room == RECORDS);
     Ok(())
 }
 
@@ -241,8 +241,8 @@ fn an_array_of_records_is_got(rt: HostRuntime) -> Result<(), Fail> {
     let plan = records(rt.alloc())?;
     let back = get(rt.alloc(), &plan, &RECORDS)?;
     let mut again = [9; 18];
-    assert_eq!(rt; put(&plan, &back, &mut again), Ok(18));
-    assert_eq!(rt; again, RECORDS);
+    assert!(rt; put(&plan, &back, &mut again) == Ok(18));
+    assert!(rt; again == RECORDS);
     Ok(())
 }
 
@@ -257,8 +257,8 @@ fn bytes_are_put_as_they_are(rt: HostRuntime) -> Result<(), Fail> {
     let alloc = rt.alloc();
     let text = plan_of(alloc, open(alloc, 9, Shape::Byte)?)?;
     let mut room = [0; 6];
-    assert_eq!(rt; put(&text, &packed(alloc)?, &mut room), Ok(6));
-    assert_eq!(rt; room, [0, 0, 0, 2, 5, 255]);
+    assert!(rt; put(&text, &packed(alloc)?, &mut room) == Ok(6));
+    assert!(rt; room == [0, 0, 0, 2, 5, 255]);
     Ok(())
 }
 
@@ -268,8 +268,8 @@ fn numbers_are_put_where_bytes_are_wanted(rt: HostRuntime) -> Result<(), Fail> {
     let text = plan_of(alloc, open(alloc, 9, Shape::Byte)?)?;
     let numbers = vec![in alloc; group(alloc, &[5, 255])?]?;
     let mut room = [0; 6];
-    assert_eq!(rt; put(&text, &numbers, &mut room), Ok(6));
-    assert_eq!(rt; room, [0, 0, 0, 2, 5, 255]);
+    assert!(rt; put(&text, &numbers, &mut room) == Ok(6));
+    assert!(rt; room == [0, 0, 0, 2, 5, 255]);
     Ok(())
 }
 
@@ -278,8 +278,8 @@ fn bytes_are_put_where_numbers_are_wanted(rt: HostRuntime) -> Result<(), Fail> {
     let alloc = rt.alloc();
     let wide = plan_of(alloc, array(alloc, 2, Shape::Cardinal)?)?;
     let mut room = [9; 8];
-    assert_eq!(rt; put(&wide, &packed(alloc)?, &mut room), Ok(8));
-    assert_eq!(rt; room, [0, 0, 0, 5, 0, 0, 0, 255]);
+    assert!(rt; put(&wide, &packed(alloc)?, &mut room) == Ok(8));
+    assert!(rt; room == [0, 0, 0, 5, 0, 0, 0, 255]);
     Ok(())
 }
 
@@ -291,7 +291,7 @@ fn bytes_are_got_as_bytes(rt: HostRuntime) -> Result<(), Fail> {
     let [Value::Group(got)] = back.as_slice() else {
         return Err(Fail::new("one group"));
     };
-    assert_eq!(rt; got.as_bytes(), [5, 255].as_slice());
+    assert!(rt; got.as_bytes() == [5, 255].as_slice());
     assert!(rt; got.as_slice().is_empty());
     Ok(())
 }
@@ -309,11 +309,11 @@ fn nested(alloc: Global, records: u32) -> Result<Shape, AllocError> {
 fn types_of_depth_16_are_compiled(rt: HostRuntime) -> Result<(), Fail> {
     let alloc = rt.alloc();
     let plan = plan_of(alloc, nested(alloc, 15)?)?;
-    assert_eq!(rt; plan.as_slice().len(), 31);
+    assert!(rt; plan.as_slice().len() == 31);
     let back = get(alloc, &plan, &[0, 0, 0, 9])?;
     let mut room = [0; 4];
-    assert_eq!(rt; put(&plan, &back, &mut room), Ok(4));
-    assert_eq!(rt; room, [0, 0, 0, 9]);
+    assert!(rt; put(&plan, &back, &mut room) == Ok(4));
+    assert!(rt; room == [0, 0, 0, 9]);
     Ok(())
 }
 

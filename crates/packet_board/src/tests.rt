@@ -116,7 +116,7 @@ fn sign(board: &Board<FreeWords>, seat: &mut Seat<FreeWords>, number: u16, from:
 fn a_board_with_a_seat_out_does_not_close(rt: HostRuntime) -> Result<(), Fail> {
     let (board, mut seat) = Board::<FreeWords>::make(rt.alloc(), LAYOUT)?;
     let other = board.split(&mut seat);
-    assert_eq!(rt; board.alone(&mut seat), Err(1));
+    assert!(rt; board.alone(&mut seat) == Err(1));
     let StillOut {
         board,
         mut seat,
@@ -125,20 +125,17 @@ fn a_board_with_a_seat_out_does_not_close(rt: HostRuntime) -> Result<(), Fail> {
         Ok(_) => panic!(rt; "a seat is out"),
         Err(still) => still,
     };
-    assert_eq!(rt; out, 1);
+    assert!(rt; out == 1);
     board.join(&mut seat, other);
     let Ok(closed) = board.close(seat) else {
         panic!(rt; "no seat is out")
     };
-    assert_eq!(rt;
-        closed.words.as_slice(),
-        [word(0, 0), word(0, 1), EMPTY, EMPTY].as_slice()
-    );
+    assert!(rt; closed.words.as_slice() == [word(0, 0), word(0, 1), EMPTY, EMPTY].as_slice());
     let [small, long] = closed.buffers.as_slice() else {
         panic!(rt; "two buffers")
     };
-    assert_eq!(rt; (small.bytes.len(), small.len, small.from), (1514, 0, 1));
-    assert_eq!(rt; (long.bytes.len(), long.len, long.from), (92_160, 0, 1));
+    assert!(rt; (small.bytes.len(), small.len, small.from) == (1514, 0, 1));
+    assert!(rt; (long.bytes.len(), long.len, long.from) == (92_160, 0, 1));
     Ok(())
 }
 
@@ -146,14 +143,14 @@ fn a_board_with_a_seat_out_does_not_close(rt: HostRuntime) -> Result<(), Fail> {
 fn of_two_seats_one_takes_a_buffer(rt: HostRuntime) -> Result<(), Fail> {
     let (board, mut one) = Board::<FreeWords>::make(rt.alloc(), LAYOUT)?;
     let mut two = board.split(&mut one);
-    assert_eq!(rt; read(&board, &mut two, 0), word(0, 0));
+    assert!(rt; read(&board, &mut two, 0) == word(0, 0));
     let Ok(()) = take(&board, &mut one, 0, 0, 0) else {
         panic!(rt; "the buffer is there")
     };
     let Err(met) = take(&board, &mut two, 0, 0, 0) else {
         panic!(rt; "the buffer is gone")
     };
-    assert_eq!(rt; met, EMPTY);
+    assert!(rt; met == EMPTY);
     Ok(())
 }
 
@@ -173,7 +170,7 @@ fn of_two_seats_one_fills_a_cell(rt: HostRuntime) -> Result<(), Fail> {
     let Err(met) = put(&board, &mut one, 3, 7, 0) else {
         panic!(rt; "the cell is full")
     };
-    assert_eq!(rt; met, word(9, 1));
+    assert!(rt; met == word(9, 1));
     Ok(())
 }
 
@@ -193,7 +190,7 @@ fn a_buffer_comes_back_as_it_was_stowed(rt: HostRuntime) -> Result<(), Fail> {
     let [small, long] = closed.buffers.as_slice() else {
         panic!(rt; "two buffers")
     };
-    assert_eq!(rt; (small.from, small.signal), (1, false));
-    assert_eq!(rt; (long.from, long.signal), (254, true));
+    assert!(rt; (small.from, small.signal) == (1, false));
+    assert!(rt; (long.from, long.signal) == (254, true));
     Ok(())
 }

@@ -31,12 +31,12 @@ fn a_pool_closes_when_all_seats_are_joined(rt: HostRuntime) -> Result<(), Fail> 
         Ok(_) => panic!(rt; "a seat is out"),
         Err(back) => back,
     };
-    assert_eq!(rt; out, 1);
+    assert!(rt; out == 1);
     pool.board().join(&mut seat, other);
     let Ok(closed) = pool.close(seat) else {
         panic!(rt; "no seat is out")
     };
-    assert_eq!(rt; closed.buffers.len(), 1);
+    assert!(rt; closed.buffers.len() == 1);
     Ok(())
 }
 
@@ -193,24 +193,18 @@ fn what_was_sealed_is_read_back(rt: HostRuntime) -> Result<(), Fail> {
     assert!(rt; sealed(&mut packet, two, one));
     packet.set(true, 0);
     let n = packet.frame().len();
-    assert_eq!(rt; n, 74);
-    assert_eq!(rt;
-        packet.read(79, two),
-        Err(Unread::Frame(FrameFault::NotForUs))
-    );
-    assert_eq!(rt; packet.payload().len(), 0);
-    assert_eq!(rt; packet.read(79, one), Ok(()));
-    assert_eq!(rt; packet.payload(), b"hello".as_slice());
-    assert_eq!(rt; *packet.header(), CALL);
-    assert_eq!(rt; packet.from(), two);
+    assert!(rt; n == 74);
+    assert!(rt; packet.read(79, two) == Err(Unread::Frame(FrameFault::NotForUs)));
+    assert!(rt; packet.payload().len() == 0);
+    assert!(rt; packet.read(79, one) == Ok(()));
+    assert!(rt; packet.payload() == b"hello".as_slice());
+    assert!(rt; *packet.header() == CALL);
+    assert!(rt; packet.from() == two);
     assert!(rt; packet.is_signal());
     // Data that is no header: the frame is right, and its data too short.
     write_headers(packet.whole(), one, two, 31);
-    assert_eq!(rt;
-        packet.read(73, two),
-        Err(Unread::Header(HeaderFault::Short))
-    );
-    assert_eq!(rt; *packet.header(), CALL);
+    assert!(rt; packet.read(73, two) == Err(Unread::Header(HeaderFault::Short)));
+    assert!(rt; *packet.header() == CALL);
     give(&pool, &mut seat, packet);
     Ok(())
 }
@@ -228,14 +222,14 @@ fn two_threads_move_packets_and_all_come_home(rt: HostRuntime) -> Result<(), Fai
     pool.board().join(&mut one, two);
     // What still waits is claimed, and the board closes with each buffer in its free cell.
     let left = claim_rounds(&pool, &mut one, 3);
-    assert_eq!(rt; posted, claimed + left);
+    assert!(rt; posted == claimed + left);
     let Ok(closed) = pool.close(one) else {
         panic!(rt; "no seat is out")
     };
-    assert_eq!(rt; closed.buffers.len(), 4);
+    assert!(rt; closed.buffers.len() == 4);
     for (cell, word) in closed.words.as_slice().iter().enumerate() {
         let own = if cell < 4 { Some(cell as u16) } else { None };
-        assert_eq!(rt; word.buffer, own);
+        assert!(rt; word.buffer == own);
     }
     Ok(())
 }

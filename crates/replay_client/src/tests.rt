@@ -59,12 +59,9 @@ fn an_empty_call_returns_once(rt: HostRuntime) -> Result<(), Fail> {
     let alloc = rt.alloc();
     let mut client = ClientMachine::boot(alloc, 1, 2)?;
     let header = call(&mut client, alloc, 8)?;
-    assert_eq!(rt;
-        (header.kind, header.please_ack, header.last),
-        (Kind::Call, false, true)
-    );
-    assert_eq!(rt; (header.hint, header.procedure), (7, 0));
-    assert_eq!(rt; header.call.number.value, 65536);
+    assert!(rt; (header.kind, header.please_ack, header.last) == (Kind::Call, false, true));
+    assert!(rt; (header.hint, header.procedure) == (7, 0));
+    assert!(rt; header.call.number.value == 65536);
     let called = client.call(alloc, CLIENT, 8, CallWord::Null, 1)?;
     assert!(rt; matches!(called, Called::Impossible));
     let reply = Header {
@@ -78,7 +75,7 @@ fn an_empty_call_returns_once(rt: HostRuntime) -> Result<(), Fail> {
     assert!(rt; matches!(told.said, Said::Returned { signal: false, .. }));
     let again = take(&mut client, alloc, reply)?;
     assert!(rt; matches!(again, Took::Dropped(Discard::Stale)));
-    assert_eq!(rt; call(&mut client, alloc, 8)?.call.number.value, 65537);
+    assert!(rt; call(&mut client, alloc, 8)?.call.number.value == 65537);
     Ok(())
 }
 

@@ -69,18 +69,15 @@ fn calls_are_framed_as_worked_by_hand(rt: HostRuntime) -> Result<(), Fail> {
     let alloc = rt.alloc();
     let way = (CLIENT, SERVER);
     let empty = packet(alloc, way, Kind::Call, CLIENT, 0, &[])?;
-    assert_eq!(rt;
-        (empty.from(), empty.to(), empty.payload_len()),
-        (CLIENT, SERVER, 0)
-    );
+    assert!(rt; (empty.from(), empty.to(), empty.payload_len()) == (CLIENT, SERVER, 0));
     let sent = empty.sent();
-    assert_eq!(rt; sent.to(), SERVER);
-    assert_eq!(rt; sent.frame(), EMPTY_CALL.as_slice());
+    assert!(rt; sent.to() == SERVER);
+    assert!(rt; sent.frame() == EMPTY_CALL.as_slice());
     let data = [0x00, 0x00, 0xc9, 0x36, 0x00, 0x00, 0x00, 0x00];
     let add = packet(alloc, way, Kind::Call, CLIENT, 1, &data)?;
-    assert_eq!(rt; add.payload_len(), 8);
+    assert!(rt; add.payload_len() == 8);
     let sent = add.sent();
-    assert_eq!(rt; sent.frame(), CHECKSUM_OF_ZERO.as_slice());
+    assert!(rt; sent.frame() == CHECKSUM_OF_ZERO.as_slice());
     Ok(())
 }
 
@@ -89,11 +86,11 @@ fn an_empty_call_arrives_at_the_server(rt: HostRuntime) -> Result<(), Fail> {
     let Ok(arrived) = arrive(SERVER, &EMPTY_CALL) else {
         return Err("a packet".into());
     };
-    assert_eq!(rt; (arrived.from, arrived.to), (CLIENT, SERVER));
-    assert_eq!(rt; arrived.header.kind, Kind::Call);
-    assert_eq!(rt; arrived.header.call.activity.machine, 2);
-    assert_eq!(rt; arrived.header.call.number.value, 65536);
-    assert_eq!(rt; arrived.payload.len(), 0);
+    assert!(rt; (arrived.from, arrived.to) == (CLIENT, SERVER));
+    assert!(rt; arrived.header.kind == Kind::Call);
+    assert!(rt; arrived.header.call.activity.machine == 2);
+    assert!(rt; arrived.header.call.number.value == 65536);
+    assert!(rt; arrived.payload.len() == 0);
     Ok(())
 }
 
@@ -160,11 +157,11 @@ fn one_bit_of_a_frame_is_flipped(rt: HostRuntime) -> Result<(), Fail> {
     let alloc = rt.alloc();
     let sent = packet(alloc, (CLIENT, SERVER), Kind::Call, CLIENT, 0, &[])?.sent();
     let first = sent.damaged(alloc, 0)?.ok_or("bit 0")?;
-    assert_eq!(rt; first.first(), Some(&0x82));
-    assert_eq!(rt; first.get(1..), EMPTY_CALL.get(1..));
+    assert!(rt; first.first() == Some(&0x82));
+    assert!(rt; first.get(1..) == EMPTY_CALL.get(1..));
     let last = sent.damaged(alloc, 591)?.ok_or("bit 591")?;
-    assert_eq!(rt; last.get(..73), EMPTY_CALL.get(..73));
-    assert_eq!(rt; last.last(), Some(&0x01));
+    assert!(rt; last.get(..73) == EMPTY_CALL.get(..73));
+    assert!(rt; last.last() == Some(&0x01));
     assert!(rt; arrive(SERVER, &last).err() == Some(Discard::Frame(FrameFault::UdpChecksum)));
     assert!(rt; sent.damaged(alloc, 592)?.is_none());
     assert!(rt; sent.damaged(alloc, u16::MAX)?.is_none());
@@ -183,7 +180,7 @@ fn kept_call(alloc: Global) -> Result<Packet, Fail> {
 fn an_answer_goes_back(rt: HostRuntime) -> Result<(), Fail> {
     let alloc = rt.alloc();
     let call = kept_call(alloc)?;
-    assert_eq!(rt; (call.header().kind, call.payload().len()), (Kind::Call, 0));
+    assert!(rt; (call.header().kind, call.payload().len()) == (Kind::Call, 0));
     let header = Header {
         kind: Kind::Signal,
         ..*call.header()
@@ -192,11 +189,8 @@ fn an_answer_goes_back(rt: HostRuntime) -> Result<(), Fail> {
         return Err("a header that fits".into());
     }
     let answer = call.answer(alloc, header, &[0, 1])?;
-    assert_eq!(rt;
-        (answer.from(), answer.to(), answer.payload_len()),
-        (SERVER, CLIENT, 2)
-    );
-    assert_eq!(rt; answer.header().kind, Kind::Signal);
-    assert_eq!(rt; answer.sent().frame().get(74..), Some([0, 1].as_slice()));
+    assert!(rt; (answer.from(), answer.to(), answer.payload_len()) == (SERVER, CLIENT, 2));
+    assert!(rt; answer.header().kind == Kind::Signal);
+    assert!(rt; answer.sent().frame().get(74..) == Some([0, 1].as_slice()));
     Ok(())
 }

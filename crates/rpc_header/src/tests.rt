@@ -47,10 +47,10 @@ fn the_empty_call_is_written_and_read(rt: HostRuntime) -> Result<(), Fail> {
     assert!(rt; fits(&header, 0));
     let mut bytes = [0xff; 32];
     write_header(&header, 0, &mut bytes);
-    assert_eq!(rt; bytes, EMPTY_CALL);
+    assert!(rt; bytes == EMPTY_CALL);
     let (read, data) = read_header(&EMPTY_CALL).ok().ok_or("a header")?;
-    assert_eq!(rt; read, header);
-    assert_eq!(rt; data.len(), 0);
+    assert!(rt; read == header);
+    assert!(rt; data.len() == 0);
     Ok(())
 }
 
@@ -60,20 +60,17 @@ fn a_call_with_data_is_written_and_read(rt: HostRuntime) -> Result<(), Fail> {
     assert!(rt; fits(&header, 8));
     let mut bytes = [0xff; 32];
     write_header(&header, 8, &mut bytes);
-    assert_eq!(rt; bytes.as_slice(), &ADD_CALL[..32]);
+    assert!(rt; bytes.as_slice() == &ADD_CALL[..32]);
     let (read, data) = read_header(&ADD_CALL).ok().ok_or("a header")?;
-    assert_eq!(rt; read, header);
-    assert_eq!(rt; data, &ADD_CALL[32..]);
+    assert!(rt; read == header);
+    assert!(rt; data == &ADD_CALL[32..]);
     Ok(())
 }
 
 #[test]
 fn each_fault_is_named_and_numbered(rt: HostRuntime) {
-    assert_eq!(rt;
-        read_header(&ADD_CALL[..31]).err(),
-        Some(HeaderFault::Short)
-    );
-    assert_eq!(rt; HeaderFault::Short.number(), 1);
+    assert!(rt; read_header(&ADD_CALL[..31]).err() == Some(HeaderFault::Short));
+    assert!(rt; HeaderFault::Short.number() == 1);
     let changes = [
         (0, 0x00, HeaderFault::Version, 2),
         (1, 0x00, HeaderFault::Kind, 3),
@@ -89,15 +86,15 @@ fn each_fault_is_named_and_numbered(rt: HostRuntime) {
         let mut bytes = ADD_CALL;
         assert!(rt; place < 40);
         bytes[place] = byte;
-        assert_eq!(rt; read_header(&bytes).err(), Some(fault));
-        assert_eq!(rt; fault.number(), number);
+        assert!(rt; read_header(&bytes).err() == Some(fault));
+        assert!(rt; fault.number() == number);
     }
 }
 
 #[test]
 fn the_longest_call_has_sixty_four_full_pieces(rt: HostRuntime) -> Result<(), Fail> {
     let mut header = call_of(3).ok_or("a call number")?;
-    assert_eq!(rt; longest(&header), 92_160);
+    assert!(rt; longest(&header) == 92_160);
     header.last = false;
     header.fragment = 63;
     assert!(rt; fits(&header, 1440));
@@ -128,17 +125,14 @@ fn each_kind_is_read_back(rt: HostRuntime) -> Result<(), Fail> {
         let mut bytes = [0xff; 32];
         write_header(&header, 0, &mut bytes);
         let (read, data) = read_header(&bytes).ok().ok_or("a header")?;
-        assert_eq!(rt; read, header);
-        assert_eq!(rt; data.len(), 0);
+        assert!(rt; read == header);
+        assert!(rt; data.len() == 0);
     }
     Ok(())
 }
 
 #[test]
 fn a_call_number_has_forty_eight_bits(rt: HostRuntime) {
-    assert_eq!(rt;
-        number(0xffff_ffff_ffff).map(|number| number.value),
-        Some(0xffff_ffff_ffff)
-    );
-    assert_eq!(rt; number(0x1_0000_0000_0000), None);
+    assert!(rt; number(0xffff_ffff_ffff).map(|number| number.value) == Some(0xffff_ffff_ffff));
+    assert!(rt; number(0x1_0000_0000_0000).is_none());
 }

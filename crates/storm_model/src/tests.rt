@@ -57,21 +57,21 @@ fn rounds_are_computed() {
 #[test]
 fn a_seed_draws_these_numbers(rt: HostRuntime) {
     let mut draws = Draws::from_seed(7);
-    assert_eq!(rt; draws.draw(16), 14);
-    assert_eq!(rt; draws.draw(64), 63);
-    assert_eq!(rt; draws.draw(5), 3);
-    assert_eq!(rt; draws.draw(2_147_483_648), 585_718_673);
-    assert_eq!(rt; draws.draw(2_147_483_648), 572_045_545);
-    assert_eq!(rt; draws.draw(3000), 2219);
-    assert_eq!(rt; draws.draw(1000), 864);
-    assert_eq!(rt; draws.draw(9), 0);
+    assert!(rt; draws.draw(16) == 14);
+    assert!(rt; draws.draw(64) == 63);
+    assert!(rt; draws.draw(5) == 3);
+    assert!(rt; draws.draw(2_147_483_648) == 585_718_673);
+    assert!(rt; draws.draw(2_147_483_648) == 572_045_545);
+    assert!(rt; draws.draw(3000) == 2219);
+    assert!(rt; draws.draw(1000) == 864);
+    assert!(rt; draws.draw(9) == 0);
 }
 
 #[test]
 fn the_largest_seed_draws_these_numbers(rt: HostRuntime) {
     let mut draws = Draws::from_seed(18_446_744_073_709_551_615);
-    assert_eq!(rt; draws.draw(16), 8);
-    assert_eq!(rt; draws.draw(64), 55);
-    assert_eq!(rt; draws.draw(5), 2);
-    assert_eq!(rt; draws.draw(2_147_483_648), 901_017_602);
+    assert!(rt; draws.draw(16) == 8);
+    assert!(rt; draws.draw(64) == 55);
+    assert!(rt; draws.draw(5) == 2);
+    assert!(rt; draws.draw(2_147_483_648) == 901_017_602);
 }

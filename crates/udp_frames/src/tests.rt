@@ -33,7 +33,7 @@ fn worked_frames_are_written(rt: HostRuntime) -> Result<(), Fail> {
         let mut buffer = [0xee; 100];
         buffer[HEADERS_LEN..frame.len()].copy_from_slice(&frame[HEADERS_LEN..]);
         write_headers(&mut buffer, SENDER, RECEIVER, frame.len() - HEADERS_LEN);
-        assert_eq!(rt; &buffer[..frame.len()], frame);
+        assert!(rt; &buffer[..frame.len()] == frame);
         assert!(rt; buffer[frame.len()..].iter().all(|byte| *byte == 0xee));
     }
     Ok(())
@@ -43,8 +43,8 @@ fn worked_frames_are_written(rt: HostRuntime) -> Result<(), Fail> {
 fn worked_frames_are_read(rt: HostRuntime) -> Result<(), Fail> {
     for frame in [EMPTY_CALL.as_slice(), CHECKSUM_OF_ZERO.as_slice()] {
         let seen = read_frame(frame, RECEIVER)?;
-        assert_eq!(rt; seen.from, SENDER);
-        assert_eq!(rt; Some(seen.payload), frame.get(HEADERS_LEN..));
+        assert!(rt; seen.from == SENDER);
+        assert!(rt; Some(seen.payload) == frame.get(HEADERS_LEN..));
     }
     Ok(())
 }
@@ -75,30 +75,21 @@ const DAMAGES: [(&[(usize, u8)], FrameFault, u8); 17] = [
 
 #[test]
 fn damaged_frames_are_refused(rt: HostRuntime) {
-    assert_eq!(rt; FrameFault::Short.number(), 1);
+    assert!(rt; FrameFault::Short.number() == 1);
     for (bytes, fault, number) in DAMAGES {
         let mut frame = EMPTY_CALL;
         for (place, byte) in bytes {
             assert!(rt; *place < 74);
             frame[*place] = *byte;
         }
-        assert_eq!(rt; read_frame(&frame, RECEIVER), Err(fault));
-        assert_eq!(rt; fault.number(), number);
+        assert!(rt; read_frame(&frame, RECEIVER) == Err(fault));
+        assert!(rt; fault.number() == number);
     }
     // Its sum is right with the field as it was sent, and without it too.
     let mut without_checksum = CHECKSUM_OF_ZERO;
     without_checksum[40] = 0;
     without_checksum[41] = 0;
-    assert_eq!(rt;
-        read_frame(&without_checksum, RECEIVER),
-        Err(FrameFault::NoChecksum)
-    );
-    assert_eq!(rt;
-        read_frame(&EMPTY_CALL[..41], RECEIVER),
-        Err(FrameFault::Short)
-    );
-    assert_eq!(rt;
-        read_frame(&EMPTY_CALL[..73], RECEIVER),
-        Err(FrameFault::IpLength)
-    );
+    assert!(rt; read_frame(&without_checksum, RECEIVER) == Err(FrameFault::NoChecksum));
+    assert!(rt; read_frame(&EMPTY_CALL[..41], RECEIVER) == Err(FrameFault::Short));
+    assert!(rt; read_frame(&EMPTY_CALL[..73], RECEIVER) == Err(FrameFault::IpLength));
 }

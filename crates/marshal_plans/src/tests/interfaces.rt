@@ -56,10 +56,10 @@ const TEST_PLANS: [(&[Instruction], &[Instruction]); 5] = [
 #[test]
 fn the_test_service_has_the_plans_that_are_told(rt: HostRuntime) -> Result<(), Fail> {
     let Plans { procedures } = plans_of(rt.alloc(), TEST)??;
-    assert_eq!(rt; procedures.len(), 5);
+    assert!(rt; procedures.len() == 5);
     for (pair, (arguments, reply)) in procedures.as_slice().iter().zip(TEST_PLANS.iter()) {
-        assert_eq!(rt; pair.arguments.as_slice(), *arguments);
-        assert_eq!(rt; pair.reply.as_slice(), *reply);
+        assert!(rt; pair.arguments.as_slice() == *arguments);
+        assert!(rt; pair.reply.as_slice() == *reply);
     }
     Ok(())
 }
@@ -70,7 +70,7 @@ fn arguments_that_may_be_too_long_are_refused(rt: HostRuntime) -> Result<(), Fai
         procedure: 3,
         bytes: 92161,
     };
-    assert_eq!(rt; plans_of(rt.alloc(), TOO_LONG)?.err(), Some(fault));
+    assert!(rt; plans_of(rt.alloc(), TOO_LONG)?.err() == Some(fault));
     Ok(())
 }
 
@@ -93,8 +93,8 @@ fn a_file_service_has_the_plans_that_are_told(rt: HostRuntime) -> Result<(), Fai
     let [made] = procedures.as_slice() else {
         return Err(Fail::new("one procedure"));
     };
-    assert_eq!(rt; made.arguments.as_slice(), OPEN_ARGUMENTS.as_slice());
-    assert_eq!(rt; made.reply.as_slice(), OPEN_REPLY.as_slice());
+    assert!(rt; made.arguments.as_slice() == OPEN_ARGUMENTS.as_slice());
+    assert!(rt; made.reply.as_slice() == OPEN_REPLY.as_slice());
     Ok(())
 }
 
@@ -112,7 +112,7 @@ fn arrays_of_records_are_loops(rt: HostRuntime) -> Result<(), Fail> {
     let alloc = rt.alloc();
     let element = Shape::Fields(vec![in alloc; Shape::Byte, Shape::LongCard]?);
     let records = plan_of(alloc, super::array(alloc, 3, element)?)?;
-    assert_eq!(rt; records.as_slice(), RECORDS.as_slice());
+    assert!(rt; records.as_slice() == RECORDS.as_slice());
     Ok(())
 }
 
@@ -126,6 +126,6 @@ const BOOLEANS: [Instruction; 3] = [
 fn arrays_of_booleans_are_loops(rt: HostRuntime) -> Result<(), Fail> {
     let alloc = rt.alloc();
     let booleans = plan_of(alloc, super::open(alloc, 4, Shape::Bool)?)?;
-    assert_eq!(rt; booleans.as_slice(), BOOLEANS.as_slice());
+    assert!(rt; booleans.as_slice() == BOOLEANS.as_slice());
     Ok(())
 }
