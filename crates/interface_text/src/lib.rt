@@ -26,6 +26,3 @@ pub use laws::{
 pub use limits::{MAX_DEPTH, MAX_EXCEPTIONS, MAX_PARTS, MAX_PROCEDURES, MAX_VALUES};
 pub use parsing::parse;
 pub use shape::Shape;
-
-#[cfg(test)]
-mod tests;

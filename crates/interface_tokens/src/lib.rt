@@ -20,6 +20,3 @@ pub use place::{Place, START};
 pub use scanner::{Ending, Tokens, tokens_of};
 pub use table::{act_of, is_sign, is_word, name_of};
 pub use token::{Sign, Spot, Token, Word};
-
-#[cfg(test)]
-mod tests;

@@ -33,6 +33,3 @@ pub use limits::{MAX_DEPTH, is_shallow};
 pub use plan::{Plan, PlanPair, Plans};
 pub use putting::put;
 pub use value::{Value, Values};
-
-#[cfg(test)]
-mod tests;

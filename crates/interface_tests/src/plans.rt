@@ -1,9 +1,9 @@
 //! The worked values, the plans of two interfaces, and values at both ends of their ranges.
-use crate::{
-    GetFault, Plan, PlanPair, Plans, PutFault, Value, Values, compile, get, is_shallow, put,
-};
 use interface_text::{Ident, Interface, Procedure, Shape};
 use item_list::Items;
+use marshal_plans::{
+    GetFault, Plan, PlanPair, Plans, PutFault, Value, Values, compile, get, is_shallow, put,
+};
 use std::alloc::{AllocError, Global};
 use std::test::Fail;
 

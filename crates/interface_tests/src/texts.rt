@@ -1,5 +1,5 @@
 //! Texts, what they declare, and the first fault of each that declares nothing.
-use crate::{Shape, parse};
+use interface_text::{Shape, parse};
 use std::alloc::{AllocError, Global};
 use std::test::Fail;
 

@@ -1,5 +1,5 @@
 //! Names by their bytes.
-use crate::Ident;
+use interface_tokens::Ident;
 use std::test::Fail;
 
 #[test]

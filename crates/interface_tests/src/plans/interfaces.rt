@@ -1,7 +1,7 @@
 //! The plans of two interfaces, and of one that is too long.
 use super::plan_of;
-use crate::{Basic, Extent, Instruction, PlanFault, Plans, compile};
 use interface_text::{Shape, parse};
+use marshal_plans::{Basic, Extent, Instruction, PlanFault, Plans, compile};
 use std::alloc::Global;
 use std::test::Fail;
 
