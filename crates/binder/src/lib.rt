@@ -18,6 +18,3 @@ pub use laws::{
 };
 pub use name::{NAME_LIMIT, Name, read_name};
 pub use row::{ExportFault, ExportRow, Verdict};
-
-#[cfg(test)]
-mod tests;

@@ -26,6 +26,3 @@ pub use source::Source;
 pub use station::{FIRST_MACHINE, LAST_MACHINE, Station};
 pub use write_failed::WriteFailed;
 pub use writing::write_all;
-
-#[cfg(test)]
-mod tests;

@@ -14,6 +14,3 @@ pub use laws::{
 };
 pub use limits::{LONG, PIECE, PIECES};
 pub use pieces::{count, piece};
-
-#[cfg(test)]
-mod tests;

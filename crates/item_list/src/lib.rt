@@ -4,6 +4,3 @@
 mod items;
 
 pub use items::Items;
-
-#[cfg(test)]
-mod tests;

@@ -7,8 +7,6 @@ ghost use Rattle.lane_checksum.specs.PlainSum.{csum, finish_of, reduced};
 
 mod lanes;
 mod laws;
-#[cfg(test)]
-mod tests;
 
 use lanes::block_sum;
 pub use laws::sum_laws;

@@ -138,6 +138,3 @@ pub fn number(n: u64) -> Option<CallNumber>
         None
     }
 }
-
-#[cfg(test)]
-mod tests;

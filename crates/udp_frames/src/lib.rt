@@ -7,8 +7,6 @@ mod fault;
 pub mod laws;
 mod layout;
 mod read;
-#[cfg(test)]
-mod tests;
 mod write;
 
 pub use fault::FrameFault;

@@ -1,4 +1,5 @@
-use super::*;
+//! Sums of texts and their joining, and digests.
+use lane_checksum::{Digest, add, digest_of, finish, sum};
 use std::test::Fail;
 
 #[test]

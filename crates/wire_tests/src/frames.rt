@@ -1,7 +1,7 @@
 //! Frames that are worked out by hand, byte by byte, and one damage for each fault.
-use super::*;
 use ff_io::Station;
 use std::test::Fail;
+use udp_frames::{FrameFault, HEADERS_LEN, read_frame, write_headers};
 
 /// An empty call from machine 2 to machine 1.
 const EMPTY_CALL: [u8; 74] = [

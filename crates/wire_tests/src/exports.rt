@@ -1,5 +1,8 @@
-// Names, the data of a Bind, and a server's exports as they come and go.
-use super::*;
+//! Names, the data of a Bind, and a server's exports as they come and go.
+use binder::{
+    BIND_DATA_LIMIT, ExportFault, Exports, InterfaceName, Verdict, read_bind_data, read_name,
+    write_bind_data,
+};
 use rpc_header::Export;
 use std::alloc::Global;
 use std::test::Fail;

@@ -1,5 +1,8 @@
-// Each call once, at a concrete type, with real memory.
-use super::*;
+//! Sources and sinks: each call once, at a concrete type, with real memory.
+use ff_io::{
+    FIRST_MACHINE, LAST_MACHINE, MemorySink, MemorySource, ReadAll, ReadFailed, Short, Sink,
+    Source, Station, WriteFailed, read_all, write_all,
+};
 use std::alloc::{AllocError, Global};
 use std::test::Fail;
 

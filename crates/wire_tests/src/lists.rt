@@ -1,7 +1,7 @@
-//! Each call once, at numbers, and what is written through the slice.
+//! A list of items: each call once, at numbers, and what is written through the slice.
 ghost use Rattle.std.specs.Prelude.{◌≡◌, ◌<◌, length, slice_set};
 
-use crate::Items;
+use item_list::Items;
 use std::test::Fail;
 
 #[test]

@@ -1,5 +1,5 @@
-// Gathered pieces, and texts cut and joined whose lengths lie around a piece and around the longest text.
-use super::*;
+//! Gathered pieces, and texts cut and joined whose lengths lie around a piece and around the longest text.
+use fragments::{Gathered, LONG, PIECE, PIECES, Pushed, count, piece};
 use std::alloc::{AllocError, Global};
 use std::test::Fail;
 

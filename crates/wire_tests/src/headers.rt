@@ -1,6 +1,8 @@
-// Headers of whole packets, each fault, and each kind there and back.
-
-use super::*;
+//! Headers of whole packets, each fault, and each kind there and back.
+use rpc_header::{
+    Activity, CallId, Export, Header, HeaderFault, Kind, fits, longest, number, read_header,
+    write_header,
+};
 use std::test::Fail;
 
 /// The header of a first call of procedure 0, without data, from machine 2.

@@ -1,0 +1,18 @@
+//! Tests of `item_list`, `lane_checksum`, `ff_io`, `rpc_header`, `fragments`, `udp_frames` and `binder` through their
+//! public calls, in a crate of their own so that those crates aren't proved a second time with them.
+#![tactic(auto)]
+
+#[cfg(test)]
+mod exports;
+#[cfg(test)]
+mod frames;
+#[cfg(test)]
+mod headers;
+#[cfg(test)]
+mod lists;
+#[cfg(test)]
+mod pieces;
+#[cfg(test)]
+mod streams;
+#[cfg(test)]
+mod sums;
