@@ -15,6 +15,3 @@ pub use line::Took;
 pub use machine::{Called, ClientMachine, Skipped};
 pub use told::{Cause, Said, Told};
 pub use words::{arguments_of, procedure_of};
-
-#[cfg(test)]
-mod tests;

@@ -373,6 +373,3 @@ impl ClientLine {
         self.kept.clear();
     }
 }
-
-#[cfg(test)]
-mod tests;

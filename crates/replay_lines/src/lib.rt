@@ -26,6 +26,3 @@ pub use packets::put_packet;
 pub use runs::put_runs;
 pub use text::{Page, Print, pages_join};
 pub use work::{put_idle, put_work};
-
-#[cfg(test)]
-mod tests;

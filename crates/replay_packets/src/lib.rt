@@ -11,6 +11,3 @@ pub use packet::{Arrived, Packet, SERVER, arrive};
 pub use replay_model::Discard;
 pub use sent::{Outgoing, Sent};
 pub use texts::counted_text;
-
-#[cfg(test)]
-mod tests;

@@ -16,12 +16,3 @@ mod worker;
 
 pub use machine::ServerMachine;
 pub use step::{Adds, Stepped, Worked};
-
-#[cfg(test)]
-mod life_tests;
-#[cfg(test)]
-mod row_tests;
-#[cfg(test)]
-mod tests;
-#[cfg(test)]
-mod trial;

@@ -9,6 +9,3 @@ pub use counts::Counts;
 pub use replay_model::{CallWord, Event};
 pub use script_text::{Script, ScriptFault, parse_script};
 pub use world::{KEPT_PACKETS, World};
-
-#[cfg(test)]
-mod tests;

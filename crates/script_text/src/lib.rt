@@ -17,8 +17,3 @@ pub use fault::ScriptFault;
 pub use laws::{no_fault_where_spelled, one_reading};
 pub use lines::count_lines;
 pub use script::{Script, parse_script};
-
-#[cfg(test)]
-mod fault_tests;
-#[cfg(test)]
-mod tests;

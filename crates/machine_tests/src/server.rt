@@ -1,21 +1,14 @@
-//! What no row has: binds, refused calls, entries that aren't there, the list of ready packets, long replies in
-//! pieces, and the test service.
+//! What no row has: binds, refused calls, entries that aren't there, the list of ready packets, and the test service.
 
-use crate::entry::{Entry, EntryState};
-use crate::service::{Served, serve};
-use crate::stage::Stage;
-use crate::task_rules::on_task;
-use crate::texts::Answer;
-use crate::trial::{
-    ACK, ACKED, Added, CALL, CLIENT, CallerPacket, PROBE, RESULT, SERVICE, ServerPacket, added_by,
-    booted, header_of, take, told,
+use crate::server_trial::{
+    ACK, ACKED, Added, CALL, CLIENT, CallerPacket, Line, PROBE, SERVICE, ServerPacket, booted,
+    first_other, header_of, take, told,
 };
-use crate::{ServerMachine, Worked};
 use call_rules::{Did, Unfit};
 use ff_io::Station;
-use fragments::LONG;
-use replay_packets::{Outgoing, Packet, SERVER, arrive};
-use rpc_header::{Activity, CallId, Export, Header, Kind, fits};
+use replay_packets::SERVER;
+use replay_server::{Adds, ServerMachine, Worked};
+use rpc_header::{Activity, CallId, Export, Header, Kind};
 use std::alloc::Global;
 use std::test::Fail;
 
@@ -196,74 +189,71 @@ fn workers_without_a_packet(rt: HostRuntime) -> Result<(), Fail> {
     Ok(())
 }
 
-/// What an acknowledgement of this piece of a kept reply has sent.
-fn fetch(alloc: Global, fragment: u16, reply: &[u8]) -> Result<(Did, Added), Fail> {
-    let header = header_of(CallerPacket { fragment, ..ACK })?;
-    if !fits(&header, 0) || reply.len() > LONG {
-        return Err("a header and a reply that fit".into());
-    }
-    let packet = Outgoing::new(alloc, CLIENT, SERVER, header, &[])?.sent();
-    let Ok(arrived) = arrive(SERVER, packet.frame()) else {
-        return Err("a packet that arrives".into());
+/// A call as it runs: its procedure, its arguments, whether the answer is a signal, and the answer.
+#[derive(Clone, Copy)]
+struct Ran(u16, &'static [u8], bool, &'static [u8]);
+
+/// Procedure 2 adds to the total and answers with it, procedure 1 adds two numbers.
+static SUMS: [Ran; 7] = [
+    Ran(2, &[0, 0, 0, 7], false, &[0, 0, 0, 7]),
+    Ran(2, &[0, 0, 1, 0], false, &[0, 0, 1, 7]),
+    Ran(2, &[0, 0, 0, 0], false, &[0, 0, 1, 7]),
+    // The total becomes 4294967040, and stays so where the sum is too large.
+    Ran(2, &[255, 255, 253, 249], false, &[255, 255, 255, 0]),
+    Ran(2, &[0, 0, 1, 0], true, &[0, 1]),
+    Ran(2, &[0, 0, 0, 0], false, &[255, 255, 255, 0]),
+    Ran(1, &[0, 0, 0, 2, 255, 255, 255, 253], false, &[255; 4]),
+];
+
+static ADMITTED: [Line; 2] = [
+    Line::One(Did::Claims, Added::Nothing),
+    Line::One(Did::Admits, Added::Nothing),
+];
+
+/// Whether a step runs a body with this answer.
+fn runs(worked: &Worked, signal: bool, answer: &[u8]) -> bool {
+    let Worked::Step(step) = worked else {
+        return false;
     };
-    let carrier = Packet::kept(alloc, &arrived)?;
-    let answer = Answer {
-        signal: false,
-        reply: Vec::from_slice(alloc, reply)?,
+    let Adds::Run(run) = &step.adds else {
+        return false;
     };
-    let mut entry = Entry::new(EntryState::Sending {
-        number: header.call.number,
-        answer,
-    });
-    let step = on_task(alloc, &mut 0, &carrier, Stage::Fetched, &mut entry)?;
-    Ok((step.did, added_by(&step.adds)))
+    let reply = &run.reply;
+    run.signal == signal
+        && reply.len as usize == answer.len()
+        && reply.head.get(..answer.len()) == Some(answer)
 }
 
-#[test]
-fn a_kept_reply_is_sent_piece_by_piece(rt: HostRuntime) -> Result<(), Fail> {
-    let alloc = rt.alloc();
-    let reply = [3; 1441];
-    let whole = ServerPacket {
-        fragment: 1,
-        ..RESULT
-    };
-    let last = ServerPacket { len: 1, ..whole };
-    assert!(rt; fetch(alloc, 0, &reply)? == (Did::Resends, Added::Packet(last)));
-    assert!(rt; fetch(alloc, 1, &reply)? == (Did::Drops(Unfit::Same), Added::Nothing));
-    assert!(rt; fetch(alloc, 63, &reply)? == (Did::Drops(Unfit::Same), Added::Nothing));
-    let longer = [3; 2881];
-    let middle = ServerPacket {
-        please_ack: true,
-        last: false,
-        len: 1440,
-        ..whole
-    };
-    assert!(rt; fetch(alloc, 0, &longer)? == (Did::Resends, Added::Packet(middle)));
-    Ok(())
-}
-
-/// What the service answers, whether it is a signal, and its total after it.
-fn served(
+/// Whether a call of this number comes, and runs so. Then worker 1 sends the reply.
+fn is_served(
     alloc: Global,
-    total: u32,
-    procedure: u16,
-    arguments: &[u8],
-) -> Result<(Vec<u8>, bool, u32), Fail> {
-    let Served { answer, total } = serve(alloc, total, procedure, arguments)?;
-    let Answer { signal, reply } = answer;
-    Ok((reply, signal, total))
+    server: &mut ServerMachine,
+    number: u64,
+    ran: Ran,
+) -> Result<bool, Fail> {
+    let Ran(procedure, arguments, signal, answer) = ran;
+    let header = Header {
+        procedure,
+        ..header_of(CallerPacket { number, ..CALL })?
+    };
+    let is_taken = take(alloc, server, CLIENT, header, arguments)?;
+    let other = first_other(alloc, server, &ADMITTED)?;
+    let is_run = runs(&server.work(alloc, 1)?, signal, answer);
+    server.work(alloc, 1)?;
+    Ok(is_taken && other.is_none() && is_run)
 }
 
 #[test]
 fn the_service_adds_up(rt: HostRuntime) -> Result<(), Fail> {
-    let (reply, signal, total) = served(rt.alloc(), 7, 2, &[0, 0, 1, 0])?;
-    assert!(rt; reply.as_slice() == [0, 0, 1, 7].as_slice());
-    assert!(rt; (signal, total) == (false, 263));
-    let (reply, signal, total) = served(rt.alloc(), 0xffff_ff00, 2, &[0, 0, 1, 0])?;
-    assert!(rt; reply.as_slice() == [0, 1].as_slice());
-    assert!(rt; (signal, total) == (true, 0xffff_ff00));
-    let (reply, signal, _) = served(rt.alloc(), 7, 1, &[0, 0, 0, 2, 255, 255, 255, 253])?;
-    assert!(rt; reply.as_slice() == [255; 4].as_slice());
-    assert!(rt; !signal);
+    let alloc = rt.alloc();
+    let mut server = booted(alloc)?;
+    let mut number = 65536;
+    for ran in SUMS {
+        assert!(rt;
+            is_served(alloc, &mut server, number, ran)?,
+            "call {number}"
+        );
+        number += 1;
+    }
     Ok(())
 }

@@ -1,5 +1,5 @@
 //! The first faults of texts just outside the grammar.
-use crate::{ScriptFault, parse_script};
+use script_text::{ScriptFault, parse_script};
 use std::alloc::Global;
 
 /// The fault of a text, which is short.

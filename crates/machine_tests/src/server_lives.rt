@@ -1,7 +1,6 @@
 //! The server's exports, its restarts, and calls with long arguments and results.
 
-use crate::ServerMachine;
-use crate::trial::{
+use crate::server_trial::{
     ACK, ACKED, Added, CALL, CLIENT, CallerPacket, EARLIER, FIRST, LATER, Line, PROBE, RESULT,
     SECOND, ServerPacket, booted, first_other, header_of, name, take,
 };
@@ -11,6 +10,7 @@ use binder::ExportFault;
 use call_rules::Did;
 use call_rules::Unfit::Same;
 use replay_packets::counted_text;
+use replay_server::ServerMachine;
 use rpc_header::{Export, Kind};
 use std::alloc::Global;
 use std::test::Fail;
@@ -244,7 +244,7 @@ fn a_long_argument_comes_in_two_pieces(rt: HostRuntime) -> Result<(), Fail> {
     Ok(())
 }
 
-/// Asks for a text of 2880 bytes.
+/// Asks for a text.
 const LONG_CALL: CallerPacket = CallerPacket {
     procedure: 4,
     ..CALL
@@ -262,6 +262,12 @@ const FETCH_THIRD: CallerPacket = CallerPacket {
 
 const FETCH_BEHIND: CallerPacket = CallerPacket {
     fragment: 2,
+    ..FETCH_SECOND
+};
+
+/// Acknowledges the last piece that any reply can have.
+const FETCH_BEHIND_ALL: CallerPacket = CallerPacket {
+    fragment: 63,
     ..FETCH_SECOND
 };
 
@@ -307,5 +313,60 @@ fn a_long_result_is_fetched_piece_by_piece(rt: HostRuntime) -> Result<(), Fail> 
     let alloc = rt.alloc();
     let mut server = booted(alloc)?;
     assert!(rt; comes(alloc, &mut server, LONG_CALL, &[0, 0, 11, 64], &FETCHED)?);
+    Ok(())
+}
+
+/// The second and last piece of a reply of 1441 bytes.
+const LAST_BYTE: ServerPacket = ServerPacket {
+    fragment: 1,
+    len: 1,
+    ..RESULT
+};
+
+static TWO_PIECES: [Line; 16] = [
+    One(Did::Claims, Nothing),
+    One(Did::Admits, Nothing),
+    One(Did::Runs, Run(4, false, 1441)),
+    One(Did::Replies, Packet(FIRST_PIECE)),
+    Take(FETCH_SECOND),
+    One(Did::Claims, Nothing),
+    One(Did::Fetches, Nothing),
+    One(Did::Resends, Packet(LAST_BYTE)),
+    Take(FETCH_THIRD),
+    One(Did::Claims, Nothing),
+    One(Did::Fetches, Nothing),
+    One(Did::Drops(Same), Nothing),
+    Take(FETCH_BEHIND_ALL),
+    One(Did::Claims, Nothing),
+    One(Did::Fetches, Nothing),
+    One(Did::Drops(Same), Nothing),
+];
+
+static MIDDLE_PIECE: [Line; 8] = [
+    One(Did::Claims, Nothing),
+    One(Did::Admits, Nothing),
+    One(Did::Runs, Run(4, false, 2881)),
+    One(Did::Replies, Packet(FIRST_PIECE)),
+    Take(FETCH_SECOND),
+    One(Did::Claims, Nothing),
+    One(Did::Fetches, Nothing),
+    One(Did::Resends, Packet(SECOND_PIECE)),
+];
+
+#[test]
+fn a_kept_reply_is_sent_piece_by_piece(rt: HostRuntime) -> Result<(), Fail> {
+    let alloc = rt.alloc();
+    let mut server = booted(alloc)?;
+    assert!(rt; comes(alloc, &mut server, LONG_CALL, &[0, 0, 5, 157], &TWO_PIECES)?);
+    let mut server = booted(alloc)?;
+    assert!(rt;
+        comes(
+            alloc,
+            &mut server,
+            LONG_CALL,
+            &[0, 0, 11, 61],
+            &MIDDLE_PIECE
+        )?
+    );
     Ok(())
 }

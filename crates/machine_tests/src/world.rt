@@ -4,10 +4,10 @@ ghost use Rattle.std.specs.Prelude.{◌≤◌, OnOk};
 ghost use Rattle.replay_model.specs.Script.{InRange};
 ghost use Rattle.replay_world.specs.Stored.{AllBelow, RoseByAtMost};
 
-use crate::{KEPT_PACKETS, World};
 use binder::read_name;
 use replay_model::limits::{FIRST_CLIENT, LAST_CLIENT, LAST_PROCESS};
 use replay_model::{CallWord, Event};
+use replay_world::{KEPT_PACKETS, World};
 use std::alloc::{AllocError, Global};
 use std::test::Fail;
 

@@ -1,8 +1,8 @@
 //! A client machine, by its public calls.
 
-use crate::{Called, ClientMachine, Said, Skipped, Took, arguments_of, procedure_of};
 use binder::{Name, read_name};
 use ff_io::Station;
+use replay_client::{Called, ClientMachine, Said, Skipped, Took, arguments_of, procedure_of};
 use replay_model::{CallWord, Discard};
 use replay_packets::{Arrived, SERVER};
 use rpc_header::{Activity, Header, Kind, fits};

@@ -1,9 +1,14 @@
 //! Each kind of line once. The texts are those of worked transcripts.
 
-use super::*;
 use binder::ExportFault;
 use call_rules::{Did, Unfit};
 use lane_checksum::digest_of;
+use replay_lines::{
+    Counts, Page, put_bind, put_bind_failure, put_bound, put_discard, put_end, put_export,
+    put_failure, put_frame, put_idle, put_impossible, put_no_export, put_packet, put_quiet,
+    put_ready, put_refusal, put_restarted, put_return, put_runs, put_second, put_skipped,
+    put_start, put_too_fast, put_unbound, put_waiting, put_withdrawn, put_work,
+};
 use replay_model::{Discard, RunLine};
 use rpc_header::{Activity, CallId, Export, Header, HeaderFault, Kind, number};
 use std::alloc::{AllocError, Global};
@@ -51,9 +56,9 @@ fn calls_start_and_return(rt: HostRuntime) -> Result<(), Fail> {
     put_return(&mut out, call, false, digest_of(&[0, 0, 0, 1]))?;
     put_return(&mut out, call, true, digest_of(&[0, 1]))?;
     let long = long_result(alloc)?;
-    assert_eq!(rt; long.len(), 1441);
+    assert!(rt; long.len() == 1441);
     put_return(&mut out, call, false, digest_of(&long))?;
-    assert_eq!(rt; out.into_text().as_slice(), CALLS);
+    assert!(rt; out.into_text().as_slice() == CALLS);
     Ok(())
 }
 
@@ -80,7 +85,7 @@ fn calls_wait_and_fail_and_names_are_bound(rt: HostRuntime) -> Result<(), Fail> 
     put_bound(&mut out, call, export)?;
     put_unbound(&mut out, call)?;
     put_quiet(&mut out)?;
-    assert_eq!(rt; out.into_text().as_slice(), ENDINGS);
+    assert!(rt; out.into_text().as_slice() == ENDINGS);
     Ok(())
 }
 
@@ -111,7 +116,7 @@ fn names_are_exported_and_machines_boot_anew(rt: HostRuntime) -> Result<(), Fail
     put_no_export(&mut out, ExportFault::TooFast { next: 2, now: 1 })?;
     put_withdrawn(&mut out, 1)?;
     put_skipped(&mut out, call.activity, 131_072)?;
-    assert_eq!(rt; out.into_text().as_slice(), LIVES);
+    assert!(rt; out.into_text().as_slice() == LIVES);
     Ok(())
 }
 
@@ -152,7 +157,7 @@ fn packets_are_sent(rt: HostRuntime) -> Result<(), Fail> {
     header.please_ack = true;
     header.fragment = 0;
     put_packet(&mut out, 5, 2, 1, &header, 0)?;
-    assert_eq!(rt; out.into_text().as_slice(), PACKETS);
+    assert!(rt; out.into_text().as_slice() == PACKETS);
     Ok(())
 }
 
@@ -213,7 +218,7 @@ fn packets_come_and_workers_step(rt: HostRuntime) -> Result<(), Fail> {
     put_work(&mut out, 4, 65536, Did::Rejects(2))?;
     put_work(&mut out, 4, 65536, Did::Waits)?;
     put_work(&mut out, 4, 65536, Did::Drops(Unfit::NoBuffer))?;
-    assert_eq!(rt; out.into_text().as_slice(), STEPS);
+    assert!(rt; out.into_text().as_slice() == STEPS);
     Ok(())
 }
 
@@ -252,7 +257,7 @@ fn runs_are_listed_and_counted(rt: HostRuntime) -> Result<(), Fail> {
     runs.push(RunLine::new(call, 4, &[0, 1, 0x67, 0xfd], true, &[0, 1]))?;
     put_runs(&mut out, &runs)?;
     put_end(&mut out, &counts)?;
-    assert_eq!(rt; out.into_text().as_slice(), ENDS);
+    assert!(rt; out.into_text().as_slice() == ENDS);
     Ok(())
 }
 

@@ -1,7 +1,7 @@
 //! Worked frames, byte by byte, and each reason to drop one.
 
-use super::*;
 use ff_io::Station;
+use replay_packets::{Discard, Outgoing, Packet, SERVER, arrive};
 use rpc_header::{Activity, CallId, Export, Header, HeaderFault, Kind, fits, number};
 use std::alloc::Global;
 use std::test::Fail;

@@ -1,7 +1,7 @@
 //! What is read of worked scripts.
-use crate::{Script, count_lines, parse_script};
 use binder::{Name, read_name};
 use replay_model::{CallWord, Event};
+use script_text::{Script, count_lines, parse_script};
 use std::alloc::{AllocError, Global};
 use std::test::Fail;
 

@@ -1,7 +1,7 @@
 //! The worker's rules, row by row, on the calls of the server machine. The packets are of call 65536 of process 1 of
 //! machine 2, where they are of no other.
 
-use crate::trial::{
+use crate::server_trial::{
     ACK, ACKED, Added, CALL, CallerPacket, EARLIER, FIRST, LATER, Line, PROBE, RESULT, SECOND,
     ServerPacket, booted, first_other,
 };
@@ -76,7 +76,7 @@ static FETCHED_AGAIN: [Line; 21] = [
 #[test]
 fn a_call_runs_and_its_reply_is_fetched_again(rt: HostRuntime) -> Result<(), Fail> {
     let mut server = booted(rt.alloc())?;
-    assert_eq!(rt; first_other(rt.alloc(), &mut server, &FETCHED_AGAIN)?, None);
+    assert!(rt; first_other(rt.alloc(), &mut server, &FETCHED_AGAIN)?.is_none());
     Ok(())
 }
 
@@ -105,7 +105,7 @@ static WHILE_RUNNING: [Line; 19] = [
 #[test]
 fn packets_that_come_while_a_call_runs(rt: HostRuntime) -> Result<(), Fail> {
     let mut server = booted(rt.alloc())?;
-    assert_eq!(rt; first_other(rt.alloc(), &mut server, &WHILE_RUNNING)?, None);
+    assert!(rt; first_other(rt.alloc(), &mut server, &WHILE_RUNNING)?.is_none());
     Ok(())
 }
 
@@ -138,7 +138,7 @@ static GATHERED: [Line; 23] = [
 #[test]
 fn arguments_are_gathered_piece_by_piece(rt: HostRuntime) -> Result<(), Fail> {
     let mut server = booted(rt.alloc())?;
-    assert_eq!(rt; first_other(rt.alloc(), &mut server, &GATHERED)?, None);
+    assert!(rt; first_other(rt.alloc(), &mut server, &GATHERED)?.is_none());
     Ok(())
 }
 
@@ -172,10 +172,7 @@ static WHILE_GATHERED: [Line; 22] = [
 #[test]
 fn packets_that_come_while_arguments_are_gathered(rt: HostRuntime) -> Result<(), Fail> {
     let mut server = booted(rt.alloc())?;
-    assert_eq!(rt;
-        first_other(rt.alloc(), &mut server, &WHILE_GATHERED)?,
-        None
-    );
+    assert!(rt; first_other(rt.alloc(), &mut server, &WHILE_GATHERED)?.is_none());
     Ok(())
 }
 
@@ -206,7 +203,7 @@ static WHILE_SENT: [Line; 21] = [
 #[test]
 fn packets_that_come_while_a_reply_is_sent_again(rt: HostRuntime) -> Result<(), Fail> {
     let mut server = booted(rt.alloc())?;
-    assert_eq!(rt; first_other(rt.alloc(), &mut server, &WHILE_SENT)?, None);
+    assert!(rt; first_other(rt.alloc(), &mut server, &WHILE_SENT)?.is_none());
     Ok(())
 }
 
@@ -245,6 +242,6 @@ static LOST: [Line; 28] = [
 #[test]
 fn the_slower_of_two_workers_loses(rt: HostRuntime) -> Result<(), Fail> {
     let mut server = booted(rt.alloc())?;
-    assert_eq!(rt; first_other(rt.alloc(), &mut server, &LOST)?, None);
+    assert!(rt; first_other(rt.alloc(), &mut server, &LOST)?.is_none());
     Ok(())
 }

@@ -1,8 +1,14 @@
-//! What a process tells, by its state and what comes; a call and a reply of three pieces each.
+//! What a process of a client tells, by its state and what comes; a call and a reply of three pieces each. It is
+//! process 1 of machine 2.
 
-use super::*;
-use replay_packets::SERVER;
-use rpc_header::{CallId, Kind, MAX_DATA, fits};
+use Seen::Sends;
+use binder::read_name;
+use ff_io::Station;
+use replay_client::{Called, Cause, ClientMachine, Said, Told, Took};
+use replay_model::{CallWord, Discard};
+use replay_packets::{Arrived, SERVER};
+use rpc_header::{Activity, CallId, CallNumber, Export, Header, Kind, MAX_DATA, fits};
+use std::alloc::{AllocError, Global};
 use std::test::Fail;
 
 const CLIENT: Station = Station { machine: 2 };
@@ -18,7 +24,7 @@ const FOUND: Export = Export {
 /// A full piece of a reply.
 const FULL: [u8; MAX_DATA] = [1; MAX_DATA];
 
-/// The states of a process. Its call has pieces 0, 1 and 2.
+/// The states of the process. Its call has pieces 0, 1 and 2.
 #[derive(Clone, Copy, PartialEq, Eq)]
 enum At {
     Idle,
@@ -53,7 +59,7 @@ fn seen_in(said: &Said) -> Seen {
         Said::Nothing => Seen::Quiet,
         Said::Sends(packet) => {
             let header = packet.header();
-            Seen::Sends(header.kind, header.fragment, packet.payload_len())
+            Sends(header.kind, header.fragment, packet.payload_len())
         }
         Said::Waits => Seen::Waits,
         Said::Returned {
@@ -88,7 +94,7 @@ fn packet(kind: Kind, fragment: u16) -> Header {
         hint: 0,
         fragment,
         export: FOUND,
-        procedure: 4,
+        procedure: 3,
     }
 }
 
@@ -109,7 +115,12 @@ fn piece_before(fragment: u16) -> Header {
 }
 
 /// What comes of a packet.
-fn take(line: &mut ClientLine, alloc: Global, header: Header, data: &[u8]) -> Result<Took, Fail> {
+fn take(
+    client: &mut ClientMachine,
+    alloc: Global,
+    header: Header,
+    data: &[u8],
+) -> Result<Took, Fail> {
     if !fits(&header, data.len()) {
         return Err("a packet that fits".into());
     }
@@ -119,7 +130,7 @@ fn take(line: &mut ClientLine, alloc: Global, header: Header, data: &[u8]) -> Re
         header,
         payload: data,
     };
-    Ok(line.take(alloc, &packet)?)
+    Ok(client.take(alloc, &packet)?)
 }
 
 fn seen_of(took: &Took) -> Seen {
@@ -130,32 +141,41 @@ fn seen_of(took: &Took) -> Seen {
     }
 }
 
-/// A process with a call of 3,000 bytes, and its first packet.
-fn called(alloc: Global) -> Result<(ClientLine, Told), Fail> {
-    let mut line = ClientLine::boot(alloc, 1, 2, 1);
-    let mut arguments = Vec::new(alloc);
-    arguments.extend_from_slice(&[1; MAX_DATA])?;
-    arguments.extend_from_slice(&[2; MAX_DATA])?;
-    arguments.extend_from_slice(&[3; 120])?;
-    let told = line.call(alloc, CLIENT, NUMBER, 4, arguments)?;
-    Ok((line, told))
+fn booted(alloc: Global) -> Result<ClientMachine, Fail> {
+    Ok(ClientMachine::boot(alloc, 1, 2)?)
 }
 
-fn binding(alloc: Global) -> ClientLine {
-    let mut line = ClientLine::boot(alloc, 1, 2, 1);
-    line.caller.start_bind(NUMBER);
-    line
+fn told_of(called: Called) -> Result<Told, Fail> {
+    match called {
+        Called::Starts(told) => Ok(told),
+        _ => Err("a start".into()),
+    }
 }
 
-/// A process that has come to this state.
-fn line_at(alloc: Global, at: At) -> Result<ClientLine, Fail> {
+/// The process calls with a text of 2,996 bytes behind its count, which are 3,000 bytes, and its first packet.
+fn called(alloc: Global) -> Result<(ClientMachine, Told), Fail> {
+    let mut client = booted(alloc)?;
+    let told = told_of(client.call(alloc, CLIENT, 1, CallWord::MaxArg(2996), 1)?)?;
+    Ok((client, told))
+}
+
+/// The process binds to a name.
+fn binding(alloc: Global) -> Result<ClientMachine, Fail> {
+    let mut client = booted(alloc)?;
+    let name = read_name(b"main").ok_or("a name")?;
+    told_of(client.bind(alloc, CLIENT, 1, &name, 1)?)?;
+    Ok(client)
+}
+
+/// A client whose process has come to this state.
+fn client_at(alloc: Global, at: At) -> Result<ClientMachine, Fail> {
     if at == At::Idle {
-        return Ok(ClientLine::boot(alloc, 1, 2, 1));
+        return booted(alloc);
     }
     if at == At::Binding {
-        return Ok(binding(alloc));
+        return binding(alloc);
     }
-    let (mut line, _) = called(alloc)?;
+    let (mut client, _) = called(alloc)?;
     let way = [
         packet(Kind::Ack, 0),
         packet(Kind::Ack, 1),
@@ -167,9 +187,9 @@ fn line_at(alloc: Global, at: At) -> Result<ClientLine, Fail> {
         piece_before(1),
     ];
     for header in way.iter().take(steps_to(at)) {
-        take(&mut line, alloc, *header, data_of(header))?;
+        take(&mut client, alloc, *header, data_of(header))?;
     }
-    Ok(line)
+    Ok(client)
 }
 
 /// How many packets come before a state.
@@ -217,9 +237,9 @@ fn packets() -> [Header; 12] {
 fn has_row(alloc: Global, at: At, row: [Seen; 12]) -> Result<bool, Fail> {
     let packets = packets();
     for place in 0..12 {
-        let mut line = line_at(alloc, at)?;
+        let mut client = client_at(alloc, at)?;
         let header = packets[place];
-        let took = take(&mut line, alloc, header, data_of(&header))?;
+        let took = take(&mut client, alloc, header, data_of(&header))?;
         if seen_of(&took) != row[place] {
             return Ok(false);
         }
@@ -237,19 +257,19 @@ const REFUSED: Seen = Seen::Fails(Cause::Refused(1));
 fn packets_at_each_state(rt: HostRuntime) -> Result<(), Fail> {
     let alloc = rt.alloc();
     assert!(rt; has_row(alloc, At::Idle, [S; 12])?);
-    let one = Seen::Sends(Kind::Call, 1, 1440);
+    let one = Sends(Kind::Call, 1, 1440);
     let row = [one, U, U, U, U, U, U, U, REFUSED, U, U, S];
     assert!(rt; has_row(alloc, At::Sending0, row)?);
-    let two = Seen::Sends(Kind::Call, 2, 120);
+    let two = Sends(Kind::Call, 2, 120);
     let row = [U, two, U, U, U, U, U, U, REFUSED, U, U, S];
     assert!(rt; has_row(alloc, At::Sending1, row)?);
     let (whole, signal) = (Seen::Returned(5), Seen::Signalled(2));
-    let kept = Seen::Sends(Kind::Ack, 0, 0);
+    let kept = Sends(Kind::Ack, 0, 0);
     let waits = Seen::Waits;
     let row = [U, U, waits, whole, signal, kept, U, U, REFUSED, U, U, S];
     assert!(rt; has_row(alloc, At::Sending2, row)?);
     assert!(rt; has_row(alloc, At::Waiting, row)?);
-    let (kept, whole) = (Seen::Sends(Kind::Ack, 1, 0), Seen::Returned(1445));
+    let (kept, whole) = (Sends(Kind::Ack, 1, 0), Seen::Returned(1445));
     let row = [U, U, U, U, U, U, kept, whole, REFUSED, U, U, S];
     assert!(rt; has_row(alloc, At::Receiving1, row)?);
     let row = [U, U, U, U, U, U, U, U, REFUSED, U, U, S];
@@ -260,42 +280,31 @@ fn packets_at_each_state(rt: HostRuntime) -> Result<(), Fail> {
     Ok(())
 }
 
+fn seen_at_tick(client: &mut ClientMachine, alloc: Global) -> Result<Seen, Fail> {
+    let told = client.tick(alloc, CLIENT, 1)?.ok_or("a process")?;
+    Ok(seen_in(&told.said))
+}
+
 /// Whether three ticks are quiet, and the fourth is seen so.
-fn fourth_tick_is(line: &mut ClientLine, alloc: Global, seen_so: Seen) -> Result<bool, Fail> {
+fn fourth_tick_is(client: &mut ClientMachine, alloc: Global, seen: Seen) -> Result<bool, Fail> {
     for _ in 0..3 {
-        let told = line.tick(alloc, CLIENT)?;
-        if seen_in(&told.said) != Seen::Quiet {
+        if seen_at_tick(client, alloc)? != Seen::Quiet {
             return Ok(false);
         }
     }
-    let told = line.tick(alloc, CLIENT)?;
-    Ok(seen_in(&told.said) == seen_so)
+    Ok(seen_at_tick(client, alloc)? == seen)
 }
 
-/// Each state in which a call or a bind is open, with what it sends again, how often, and how it ends.
+/// Each state in which a call or a bind is open, with what it sends again, how often, and how it ends. The data of the
+/// bind are `Test` and `main`, each behind its length in one byte.
 const TICKS: [(At, Seen, u8, Seen); 7] = [
-    (
-        At::Sending0,
-        Seen::Sends(Kind::Call, 0, 1440),
-        7,
-        UNANSWERED,
-    ),
-    (
-        At::Sending1,
-        Seen::Sends(Kind::Call, 1, 1440),
-        7,
-        UNANSWERED,
-    ),
-    (At::Sending2, Seen::Sends(Kind::Call, 2, 120), 7, UNANSWERED),
-    (At::Waiting, Seen::Sends(Kind::Probe, 2, 0), 8, UNANSWERED),
-    (At::Receiving1, Seen::Sends(Kind::Ack, 0, 0), 7, UNANSWERED),
-    (At::Receiving2, Seen::Sends(Kind::Ack, 1, 0), 7, UNANSWERED),
-    (
-        At::Binding,
-        Seen::Sends(Kind::Bind, 0, 0),
-        7,
-        Seen::BindFails,
-    ),
+    (At::Sending0, Sends(Kind::Call, 0, 1440), 7, UNANSWERED),
+    (At::Sending1, Sends(Kind::Call, 1, 1440), 7, UNANSWERED),
+    (At::Sending2, Sends(Kind::Call, 2, 120), 7, UNANSWERED),
+    (At::Waiting, Sends(Kind::Probe, 2, 0), 8, UNANSWERED),
+    (At::Receiving1, Sends(Kind::Ack, 0, 0), 7, UNANSWERED),
+    (At::Receiving2, Sends(Kind::Ack, 1, 0), 7, UNANSWERED),
+    (At::Binding, Sends(Kind::Bind, 0, 10), 7, Seen::BindFails),
 ];
 
 const UNANSWERED: Seen = Seen::Fails(Cause::Unanswered);
@@ -304,21 +313,30 @@ const UNANSWERED: Seen = Seen::Fails(Cause::Unanswered);
 fn eight_transmissions_without_an_answer_fail(rt: HostRuntime) -> Result<(), Fail> {
     let alloc = rt.alloc();
     for (at, again, times, end) in TICKS {
-        let mut line = line_at(alloc, at)?;
+        let mut client = client_at(alloc, at)?;
         for _ in 0..times {
-            assert!(rt; fourth_tick_is(&mut line, alloc, again)?);
+            assert!(rt; fourth_tick_is(&mut client, alloc, again)?);
         }
-        assert!(rt; fourth_tick_is(&mut line, alloc, end)?);
-        assert!(rt; line.is_idle());
-        assert!(rt; fourth_tick_is(&mut line, alloc, Seen::Quiet)?);
+        assert!(rt; fourth_tick_is(&mut client, alloc, end)?);
+        assert!(rt; client.is_idle(1));
+        assert!(rt; fourth_tick_is(&mut client, alloc, Seen::Quiet)?);
     }
     Ok(())
 }
 
+/// The arguments: their count, and behind it the bytes 0, 1 and so on modulo 251.
+fn arguments(alloc: Global) -> Result<Vec<u8>, AllocError> {
+    let mut bytes = Vec::from_slice(alloc, &[0, 0, 0x0b, 0xb4])?;
+    for place in 0..2996u32 {
+        bytes.push((place % 251) as u8)?;
+    }
+    Ok(bytes)
+}
+
 /// Whether a packet with this data is sent.
-fn carries(said: Said, data: &[u8]) -> bool {
+fn carries(said: Said, data: Option<&[u8]>) -> bool {
     match said {
-        Said::Sends(packet) => packet.sent().frame().get(74..) == Some(data),
+        Said::Sends(packet) => packet.sent().frame().get(74..) == data,
         _ => false,
     }
 }
@@ -333,31 +351,34 @@ fn said_of(took: Took) -> Said {
 #[test]
 fn a_call_of_three_pieces_is_acknowledged_one_by_one(rt: HostRuntime) -> Result<(), Fail> {
     let alloc = rt.alloc();
-    let (mut line, told) = called(alloc)?;
+    let text = arguments(alloc)?;
+    assert!(rt; text.len() == 3000);
+    let (mut client, told) = called(alloc)?;
     assert!(rt; told.call.number == NUMBER);
-    assert!(rt; carries(told.said, &[1; 1440]));
-    let took = take(&mut line, alloc, packet(Kind::Ack, 0), &[])?;
-    assert!(rt; carries(said_of(took), &[2; 1440]));
-    let took = take(&mut line, alloc, packet(Kind::Ack, 1), &[])?;
-    assert!(rt; carries(said_of(took), &[3; 120]));
-    let took = take(&mut line, alloc, packet(Kind::Ack, 2), &[])?;
+    assert!(rt; carries(told.said, text.get(..1440)));
+    let took = take(&mut client, alloc, packet(Kind::Ack, 0), &[])?;
+    assert!(rt; carries(said_of(took), text.get(1440..2880)));
+    let took = take(&mut client, alloc, packet(Kind::Ack, 1), &[])?;
+    assert!(rt; carries(said_of(took), text.get(2880..)));
+    let took = take(&mut client, alloc, packet(Kind::Ack, 2), &[])?;
     assert!(rt; seen_of(&took) == Seen::Waits);
-    assert!(rt; fourth_tick_is(&mut line, alloc, Seen::Sends(Kind::Probe, 2, 0))?);
-    let took = take(&mut line, alloc, packet(Kind::Result, 0), &[])?;
-    assert!(rt; seen_of(&took) == Seen::Returned(0) && line.is_idle());
-    assert!(rt; line.next() == 65537);
+    assert!(rt; fourth_tick_is(&mut client, alloc, Sends(Kind::Probe, 2, 0))?);
+    let took = take(&mut client, alloc, packet(Kind::Result, 0), &[])?;
+    assert!(rt; seen_of(&took) == Seen::Returned(0) && client.is_idle(1));
+    let next = told_of(client.call(alloc, CLIENT, 1, CallWord::Null, 1)?)?;
+    assert!(rt; next.call.number.value == 65537);
     Ok(())
 }
 
 #[test]
 fn a_reply_of_three_pieces_is_kept(rt: HostRuntime) -> Result<(), Fail> {
     let alloc = rt.alloc();
-    let mut line = line_at(alloc, At::Waiting)?;
-    let took = take(&mut line, alloc, piece_before(0), &[1; 1440])?;
-    assert!(rt; seen_of(&took) == Seen::Sends(Kind::Ack, 0, 0));
-    let took = take(&mut line, alloc, piece_before(1), &[2; 1440])?;
-    assert!(rt; seen_of(&took) == Seen::Sends(Kind::Ack, 1, 0));
-    let took = take(&mut line, alloc, packet(Kind::Result, 2), &[3, 4, 5])?;
+    let mut client = client_at(alloc, At::Waiting)?;
+    let took = take(&mut client, alloc, piece_before(0), &[1; 1440])?;
+    assert!(rt; seen_of(&took) == Sends(Kind::Ack, 0, 0));
+    let took = take(&mut client, alloc, piece_before(1), &[2; 1440])?;
+    assert!(rt; seen_of(&took) == Sends(Kind::Ack, 1, 0));
+    let took = take(&mut client, alloc, packet(Kind::Result, 2), &[3, 4, 5])?;
     let Said::Returned { signal, reply } = said_of(took) else {
         return Err("a reply".into());
     };
@@ -368,15 +389,9 @@ fn a_reply_of_three_pieces_is_kept(rt: HostRuntime) -> Result<(), Fail> {
 #[test]
 fn a_bind_that_is_answered_changes_the_binding(rt: HostRuntime) -> Result<(), Fail> {
     let alloc = rt.alloc();
-    let mut line = binding(alloc);
-    take(&mut line, alloc, packet(Kind::Bound, 0), &[])?;
-    let Some(number) = line.next_number(1) else {
-        return Err("a call number".into());
-    };
-    if !line.is_idle() {
-        return Err("an idle process".into());
-    }
-    let told = line.call(alloc, CLIENT, number, 0, Vec::new(alloc))?;
+    let mut client = binding(alloc)?;
+    take(&mut client, alloc, packet(Kind::Bound, 0), &[])?;
+    let told = told_of(client.call(alloc, CLIENT, 1, CallWord::Null, 1)?)?;
     let Said::Sends(packet) = told.said else {
         return Err("a packet".into());
     };

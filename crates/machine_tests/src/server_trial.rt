@@ -1,11 +1,11 @@
 //! A server machine to be tried: packets come in their frames, and of each step it is looked at what the worker did
 //! and what that added.
 
-use crate::{Adds, ServerMachine, Worked};
 use binder::{Name, read_name};
 use call_rules::Did;
 use ff_io::Station;
 use replay_packets::{Outgoing, SERVER, arrive};
+use replay_server::{Adds, ServerMachine, Worked};
 use rpc_header::{Activity, CallId, Export, Header, Kind, fits, number};
 use std::alloc::Global;
 use std::test::Fail;
@@ -207,7 +207,7 @@ fn sent(packet: &Outgoing) -> ServerPacket {
 }
 
 /// What a step adds, as a table says it.
-pub fn added_by(adds: &Adds) -> Added {
+fn added_by(adds: &Adds) -> Added {
     match adds {
         Adds::Nothing => Added::Nothing,
         Adds::Run(run) => Added::Run(run.arguments.len, run.signal, run.reply.len),
