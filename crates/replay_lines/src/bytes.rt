@@ -4,6 +4,7 @@ ghost use Rattle.std.specs.Prelude.{◌≡◌, ◌≤◌, take, Some};
 ghost use Rattle.std.specs.Fmt.{decimal};
 ghost use Rattle.replay_model.specs.Lines.{bytes_text, exception_number, hex, hex_byte, reply_text};
 
+use crate::short::Short;
 use lane_checksum::{Digest, HEAD_LEN};
 use std::fmt::{self, Display, Formatter};
 
@@ -45,7 +46,7 @@ impl Display for BytesText {
     fn fmt<W: fmt::Write>(&self, f: &mut Formatter<W>) -> fmt::Result {
         let Digest { len, sum, .. } = self.0;
         if len as usize <= HEAD_LEN {
-            write!(f, "{len}:{}", Hex(whole_text(&self.0)))
+            write!(f, "{}:{}", Short(len as u64), Hex(whole_text(&self.0)))
         } else {
             write!(f, "{len}:#{}", Hex(&sum.to_be_bytes()))
         }

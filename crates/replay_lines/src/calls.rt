@@ -9,7 +9,7 @@ ghost use Rattle.replay_model.specs.Lines.{call_text, lines_of_act, return_line}
 ghost use Rattle.replay_lines.specs.Page.{written};
 
 use crate::bytes::{BytesText, ExceptionText};
-use crate::short::Short;
+use crate::short::{Decimal, Short};
 use crate::text::{Page, Print};
 use call_rules::TRIES;
 use lane_checksum::Digest;
@@ -26,9 +26,9 @@ impl Display for CallText {
 
     fn fmt<W: fmt::Write>(&self, f: &mut Formatter<W>) -> fmt::Result {
         let CallId { activity, number } = self.0;
-        let machine = Short(activity.machine);
-        let process = Short(activity.process as u32);
-        write!(f, "{machine}.{process} {}", number.value)
+        let machine = Short(activity.machine as u64);
+        let process = Short(activity.process as u64);
+        write!(f, "{machine}.{process} {}", Decimal(number.value))
     }
 }
 

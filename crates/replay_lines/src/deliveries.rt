@@ -6,6 +6,7 @@ ghost use Rattle.replay_model.specs.Lines.{lines_of_act, discard_text, frame_fau
 ghost use Rattle.replay_lines.specs.Page.{written};
 
 use crate::bytes::Hex;
+use crate::short::Decimal;
 use crate::text::{Page, Print};
 use replay_model::Discard;
 use rpc_header::HeaderFault;
@@ -17,7 +18,7 @@ use udp_frames::FrameFault;
 pub fn put_ready(out: &mut Page, packet: u32) -> Result<(), AllocError>
     ensures { OnOk result (out.new ≡ written out.old (lines_of_act (act.Readies packet))) }
 {
-    writeln!(out, "ready {packet}")
+    writeln!(out, "ready {}", Decimal(packet as u64))
 }
 
 /// Appends the line of a delivery that ends without a packet handed on.

@@ -5,7 +5,7 @@ ghost use Rattle.call_rules.specs.Packet.{fields_of};
 ghost use Rattle.replay_model.specs.Lines.{flags_text, header_text, kind_text, packet_line};
 ghost use Rattle.replay_lines.specs.Page.{written};
 
-use crate::short::Short;
+use crate::short::{Decimal, Short};
 use crate::text::{Page, Print};
 use rpc_header::{Header, Kind};
 use std::alloc::AllocError;
@@ -23,9 +23,11 @@ pub fn put_packet(
 ) -> Result<(), AllocError>
     ensures { OnOk result (out.new ≡ written out.old (packet_line number from to (fields_of header.now) len)) }
 {
-    let from = Short(from as u32);
-    let to = Short(to as u32);
+    let from = Short(from as u64);
+    let to = Short(to as u64);
     let header = HeaderText(header);
+    let number = Decimal(number as u64);
+    let len = Short(len as u64);
     writeln!(out, "packet {number} {from}>{to} {header} {len}")
 }
 
@@ -39,8 +41,8 @@ impl Display for HeaderText<'_> {
     fn fmt<W: fmt::Write>(&self, f: &mut Formatter<W>) -> fmt::Result {
         let header = self.0;
         let kind = KindText(header.kind);
-        let call = header.call.number.value;
-        let fragment = Short(header.fragment as u32);
+        let call = Decimal(header.call.number.value);
+        let fragment = Short(header.fragment as u64);
         write!(f, "{kind} {call}/{fragment} {}", FlagsText(header))
     }
 }

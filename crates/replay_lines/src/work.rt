@@ -5,7 +5,7 @@ ghost use Rattle.replay_model.specs.Record as act;
 ghost use Rattle.replay_model.specs.Lines.{did_text, unfit_text, lines_of_act};
 ghost use Rattle.replay_lines.specs.Page.{written};
 
-use crate::short::Short;
+use crate::short::{Decimal, Short};
 use crate::text::{Page, Print};
 use call_rules::{Did, Unfit};
 use std::alloc::AllocError;
@@ -22,7 +22,7 @@ pub fn put_idle(out: &mut Page, worker: u8) -> Result<(), AllocError>
 pub fn put_work(out: &mut Page, worker: u8, number: u64, did: Did) -> Result<(), AllocError>
     ensures { OnOk result (out.new ≡ written out.old (lines_of_act (act.Works worker number did))) }
 {
-    let worker = Short(worker as u32);
+    let worker = Short(worker as u64);
     writeln!(out, "worker {worker} {}", DidText { number, did })
 }
 
@@ -37,7 +37,7 @@ impl Display for DidText {
     ghost output = { λ d. Some (did_text d.number d.did) };
 
     fn fmt<W: fmt::Write>(&self, f: &mut Formatter<W>) -> fmt::Result {
-        let number = self.number;
+        let number = Decimal(self.number);
         match self.did {
             Did::Claims => write!(f, "claims {number}"),
             Did::Admits => write!(f, "admits {number}"),

@@ -1,5 +1,6 @@
 mod Calls
 mod Checks
+mod CommonLines
 mod FirstLine
 mod FirstWord
 mod LineBytes

@@ -69,7 +69,7 @@ module _ (w : List ℕ) (numeral : is_numeral w ≡ true) where
   plain : begins_plainly w ≡ true
   plain = (and_parts _ _ numeral).1
 
-  some_digits : 0 < length w
+  pub some_digits : 0 < length w
   some_digits = elim (or_cases (length w == 1) (nat_lt 48 (get_or w 0 0)) plain) [
     | inl e ↦ let one = eqb-true _ _ e in omega arith
     | inr e ↦ some_byte w (ltb-true _ _ e)

@@ -1,9 +1,9 @@
 -- What the words of a line, a line and a text are read as.
 use Rattle.std.specs.Prelude.{◌≡◌, ℕ, List, Bool, true, false, Option, Some, None, Result, Ok, Err}
 use Rattle.std.specs.Option.{option_or}
-use Rattle.std.specs.List.{filter_map}
+use Rattle.std.specs.List.{filter_map, list_all}
 use Rattle.replay_model.specs.Script.{Script, is_skipped, words_of, lines_of_words}
-use Rattle.replay_model.specs.TextFault.{Above, event_of, fault_by, fitting, first_of, form_checks, line_checks, name_fault, number_fault, value, first_fault}
+use Rattle.replay_model.specs.TextFault.{Above, event_of, fault_by, fitting, first_of, form_checks, is_byte_of_line, line_checks, name_fault, number_fault, value, first_fault}
 use Rattle.replay_model.specs.declared.event.Event.{Event}
 use Rattle.replay_model.specs.declared.text_fault.TextFault.{TextFault}
 use Rattle.script_text.specs.declared.fault.ScriptFault.{ScriptFault}
@@ -47,6 +47,11 @@ ReadsLine above line (Ok (Some e)) =
     (is_skipped (words_of line) ≡ false)
     × (fault_of_whole above line ≡ None) × (event_of (words_of line) ≡ Some e)
 ReadsLine above line (Err f) = (is_skipped (words_of line) ≡ false) × (fault_of_whole above line ≡ Some f)
+
+-- a line of bytes that it may have spells this event, if it isn't behind the end
+abbrev pub SpellsOpenly : List ℕ → Event → Type 0
+SpellsOpenly line e =
+    (above : Above) → list_all is_byte_of_line line ≡ true → above.ended ≡ false → ReadsLine above line (Ok (Some e))
 
 -- a text without faults, and the events of its lines
 pub record ReadsText (text : List ℕ) (events : List Event) : Type 0 where

@@ -1,7 +1,7 @@
 //! What one line of a script spells.
 ghost use Rattle.std.specs.Prelude.{◌≡◌, ◌∷◌, ℕ, List, Bool, IfOk, IfSome, codes};
 ghost use Rattle.script_text.specs.Words.{CountsFrom, IsVerb, text_of};
-ghost use Rattle.script_text.specs.Reading.{ReadsWords, ReadsLine};
+ghost use Rattle.script_text.specs.Reading.{ReadsWords, ReadsLine, SpellsOpenly};
 ghost use Rattle.replay_model.specs.Script.{InRange, is_skipped, words_of};
 ghost use Rattle.std.specs.List.{list_all};
 ghost use Rattle.replay_model.specs.TextFault.{Above, is_byte_of_line};
@@ -9,7 +9,7 @@ ghost use Rattle.replay_model.specs.TextFault.{Above, is_byte_of_line};
 use crate::call::call_of;
 use crate::number::short_number;
 use crate::place::{client, machine, name, packet, process, time, worker};
-use crate::verb::{Verb, common_verb, verb_of};
+use crate::verb::{Verb, verb_of};
 use crate::word::{first_word, no_words, one_word, process_words, tick_words, two_words};
 use replay_model::limits::{LARGEST_COUNT, LAST_BIT};
 use replay_model::{Event, TextFault};
@@ -21,8 +21,10 @@ pub fn read_line(line: &[u8], fine: bool, ended: bool) -> Result<Option<Event>, 
     ensures reads { (above : Above) → above.ended ≡ ended → ReadsLine above line.now result }
     ensures in_range { IfOk result (λ e. IfSome e InRange) }
 {
-    if let Some((verb, rest)) = common_verb(line) {
-        return read_counted(Some(verb), rest, fine, ended);
+    if fine && !ended {
+        if let Some(event) = common_event(line) {
+            return Ok(Some(event));
+        }
     }
     let Some((first, rest)) = first_word(line) else {
         return Ok(None);
@@ -31,6 +33,28 @@ pub fn read_line(line: &[u8], fine: bool, ended: bool) -> Result<Option<Event>, 
         return Ok(None);
     }
     read_counted(verb_of(first), rest, fine, ended)
+}
+
+/// The event of a line of one of the two forms that most lines have, where its number stands one blank behind its
+/// word. Any other line is left to be read word by word.
+#[inline(always)]
+fn common_event(line: &[u8]) -> Option<Event>
+    ensures reads { IfSome result (λ e. SpellsOpenly line.now e) }
+    ensures in_range { IfSome result InRange }
+{
+    if let Some(rest) = line.strip_prefix(b"work ") {
+        return match worker(rest) {
+            Ok(worker) => Some(Event::Work(worker)),
+            Err(_) => None,
+        };
+    }
+    if let Some(rest) = line.strip_prefix(b"deliver ") {
+        return match packet(rest) {
+            Ok(packet) => Some(Event::Deliver(packet)),
+            Err(_) => None,
+        };
+    }
+    None
 }
 
 /// The event of a line that isn't skipped. It begins with this word, or with one that begins no form.

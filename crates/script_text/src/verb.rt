@@ -1,6 +1,5 @@
 //! The first words that a line may have, and the call words.
-ghost use Rattle.std.specs.Prelude.{◌≡◌, ◌≢◌, ◌∷◌, IfSome, MatchOption};
-ghost use Rattle.replay_model.specs.Script.{words_of};
+ghost use Rattle.std.specs.Prelude.{◌≡◌, ◌≢◌, MatchOption};
 ghost use Rattle.script_text.specs.Words.{IsVerb, text_of, asked_text_of};
 ghost use Rattle.script_text.specs.declared.verb.Verb.{Verb};
 ghost use Rattle.script_text.specs.declared.verb.CallVerb.{CallVerb};
@@ -37,23 +36,6 @@ pub enum CallVerb {
     MaxResult,
     BigArg,
     BigResult,
-}
-
-/// The first word of a line, and what is behind it, where it is one of those that most lines begin with, and stands
-/// first. So it is told with no search for its end.
-pub fn common_verb(line: &[u8]) -> Option<(Verb, &[u8])>
-    ensures { IfSome result (λ r. words_of line.now ≡ text_of r.0 ∷ words_of r.1.now) }
-{
-    if let Some(rest) = line.strip_prefix(b"work ") {
-        return Some((Verb::Work, rest));
-    }
-    if let Some(rest) = line.strip_prefix(b"deliver ") {
-        return Some((Verb::Deliver, rest));
-    }
-    if let Some(rest) = line.strip_prefix(b"call ") {
-        return Some((Verb::Call, rest));
-    }
-    None
 }
 
 pub fn verb_of(word: &[u8]) -> Option<Verb>
