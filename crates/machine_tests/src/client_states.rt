@@ -39,7 +39,7 @@ enum At {
 
 /// What is seen of a step: of a packet its kind, its number among the pieces and the length of its data; of a reply
 /// its length.
-#[derive(Clone, Copy, PartialEq, Eq, Debug)]
+#[derive(Clone, Copy, PartialEq, Eq)]
 enum Seen {
     Stale,
     Unused,

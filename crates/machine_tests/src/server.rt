@@ -2,7 +2,7 @@
 
 use crate::server_trial::{
     ACK, ACKED, Added, CALL, CLIENT, CallerPacket, Line, PROBE, SERVICE, ServerPacket, booted,
-    first_other, header_of, take, told,
+    first_other, header_of, step_of, take,
 };
 use call_rules::{Did, Unfit};
 use ff_io::Station;
@@ -18,18 +18,28 @@ const NO_EXPORT: Export = Export {
     index: 0,
 };
 
+/// A packet comes from a machine to a server that has booted, and worker 1 does a step.
+fn first_step(
+    alloc: Global,
+    from: Station,
+    header: Header,
+    data: &[u8],
+) -> Result<Option<(Did, Added)>, Fail> {
+    let mut server = booted(alloc)?;
+    if !take(alloc, &mut server, from, header, data)? {
+        return Err("room".into());
+    }
+    step_of(alloc, &mut server, 1)
+}
+
 /// A Bind with this data comes, and worker 1 does a step.
 fn bind(alloc: Global, name: &[u8]) -> Result<Option<(Did, Added)>, Fail> {
-    let mut server = booted(alloc)?;
     let header = Header {
         kind: Kind::Bind,
         export: NO_EXPORT,
         ..header_of(CALL)?
     };
-    if !take(alloc, &mut server, CLIENT, header, name)? {
-        return Err("room".into());
-    }
-    Ok(told(&server.work(alloc, 1)?))
+    first_step(alloc, CLIENT, header, name)
 }
 
 #[test]
@@ -68,16 +78,12 @@ fn ask(
     export: Export,
     procedure: u16,
 ) -> Result<Option<(Did, Added)>, Fail> {
-    let mut server = booted(alloc)?;
     let header = Header {
         export,
         procedure,
         ..header_of(piece)?
     };
-    if !take(alloc, &mut server, CLIENT, header, &[])? {
-        return Err("room".into());
-    }
-    Ok(told(&server.work(alloc, 1)?))
+    first_step(alloc, CLIENT, header, &[])
 }
 
 /// The same, of each kind of packet that is about a call, where each is refused for this reason.
@@ -124,7 +130,6 @@ fn calls_that_the_exports_refuse(rt: HostRuntime) -> Result<(), Fail> {
 
 /// A call of a process of a machine comes from there, and worker 1 does a step.
 fn call_from(alloc: Global, from: Station, process: u16) -> Result<Option<(Did, Added)>, Fail> {
-    let mut server = booted(alloc)?;
     let header = header_of(CALL)?;
     let activity = Activity {
         machine: u32::from(from.machine),
@@ -134,10 +139,7 @@ fn call_from(alloc: Global, from: Station, process: u16) -> Result<Option<(Did, 
         activity,
         ..header.call
     };
-    if !take(alloc, &mut server, from, Header { call, ..header }, &[])? {
-        return Err("room".into());
-    }
-    Ok(told(&server.work(alloc, 1)?))
+    first_step(alloc, from, Header { call, ..header }, &[])
 }
 
 #[test]
@@ -172,7 +174,7 @@ fn at_most_64_packets_are_ready(rt: HostRuntime) -> Result<(), Fail> {
     let alloc = rt.alloc();
     let mut server = booted(alloc)?;
     assert!(rt; calls_taken(alloc, &mut server)? == 64);
-    let step = told(&server.work(alloc, 4)?);
+    let step = step_of(alloc, &mut server, 4)?;
     assert!(rt; step == Some((Did::Claims, Added::Nothing)));
     assert!(rt; calls_taken(alloc, &mut server)? == 1);
     Ok(())

@@ -204,6 +204,16 @@ fn comes(
     Ok(is_taken && other.is_none())
 }
 
+/// The same, of a server that has booted.
+fn comes_at_boot(
+    alloc: Global,
+    packet: CallerPacket,
+    data: &[u8],
+    lines: &[Line],
+) -> Result<bool, Fail> {
+    comes(alloc, &mut booted(alloc)?, packet, data, lines)
+}
+
 /// The pieces of a text of 1440 bytes behind its count.
 const TEXT: CallerPacket = CallerPacket {
     procedure: 3,
@@ -311,8 +321,7 @@ static FETCHED: [Line; 16] = [
 #[test]
 fn a_long_result_is_fetched_piece_by_piece(rt: HostRuntime) -> Result<(), Fail> {
     let alloc = rt.alloc();
-    let mut server = booted(alloc)?;
-    assert!(rt; comes(alloc, &mut server, LONG_CALL, &[0, 0, 11, 64], &FETCHED)?);
+    assert!(rt; comes_at_boot(alloc, LONG_CALL, &[0, 0, 11, 64], &FETCHED)?);
     Ok(())
 }
 
@@ -356,17 +365,7 @@ static MIDDLE_PIECE: [Line; 8] = [
 #[test]
 fn a_kept_reply_is_sent_piece_by_piece(rt: HostRuntime) -> Result<(), Fail> {
     let alloc = rt.alloc();
-    let mut server = booted(alloc)?;
-    assert!(rt; comes(alloc, &mut server, LONG_CALL, &[0, 0, 5, 157], &TWO_PIECES)?);
-    let mut server = booted(alloc)?;
-    assert!(rt;
-        comes(
-            alloc,
-            &mut server,
-            LONG_CALL,
-            &[0, 0, 11, 61],
-            &MIDDLE_PIECE
-        )?
-    );
+    assert!(rt; comes_at_boot(alloc, LONG_CALL, &[0, 0, 5, 157], &TWO_PIECES)?);
+    assert!(rt; comes_at_boot(alloc, LONG_CALL, &[0, 0, 11, 61], &MIDDLE_PIECE)?);
     Ok(())
 }

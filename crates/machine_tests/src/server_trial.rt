@@ -1,6 +1,8 @@
 //! A server machine to be tried: packets come in their frames, and of each step it is looked at what the worker did
 //! and what that added.
 
+ghost use Rattle.std.specs.Prelude.{◌≤◌};
+
 use binder::{Name, read_name};
 use call_rules::Did;
 use ff_io::Station;
@@ -77,7 +79,7 @@ pub const PROBE: CallerPacket = CallerPacket {
 };
 
 /// A packet of the server, as the caller's, with its reason and its export.
-#[derive(Clone, Copy, PartialEq, Eq, Debug)]
+#[derive(Clone, Copy, PartialEq, Eq)]
 pub struct ServerPacket {
     pub kind: Kind,
     pub please_ack: bool,
@@ -106,7 +108,7 @@ pub const RESULT: ServerPacket = ServerPacket {
 };
 
 /// What a step adds.
-#[derive(Clone, Copy, PartialEq, Eq, Debug)]
+#[derive(Clone, Copy, PartialEq, Eq)]
 pub enum Added {
     Nothing,
     /// A run: how many bytes its arguments and its reply have, and whether it is a signal.
@@ -217,11 +219,22 @@ fn added_by(adds: &Adds) -> Added {
 }
 
 /// What a worker did and added.
-pub fn told(worked: &Worked) -> Option<(Did, Added)> {
+fn told(worked: &Worked) -> Option<(Did, Added)> {
     match worked {
         Worked::Impossible | Worked::Idle => None,
         Worked::Step(step) => Some((step.did, added_by(&step.adds))),
     }
+}
+
+/// One step of a worker, as a table says it.
+pub fn step_of(
+    alloc: Global,
+    server: &mut ServerMachine,
+    worker: u8,
+) -> Result<Option<(Did, Added)>, Fail>
+    requires { 1 ≤ worker }
+{
+    Ok(told(&server.work(alloc, worker)?))
 }
 
 fn is_idle(worked: &Worked) -> bool {
@@ -237,8 +250,8 @@ pub fn name(bytes: &[u8]) -> Result<Name, Fail> {
 fn comes_about(alloc: Global, server: &mut ServerMachine, line: Line) -> Result<bool, Fail> {
     match line {
         Line::Take(packet) => take_packet(alloc, server, packet),
-        Line::One(did, added) => Ok(told(&server.work(alloc, 1)?) == Some((did, added))),
-        Line::Two(did, added) => Ok(told(&server.work(alloc, 2)?) == Some((did, added))),
+        Line::One(did, added) => Ok(step_of(alloc, server, 1)? == Some((did, added))),
+        Line::Two(did, added) => Ok(step_of(alloc, server, 2)? == Some((did, added))),
         Line::Idle => Ok(is_idle(&server.work(alloc, 1)?)),
         Line::Export(second) => Ok(server.export(alloc, name(b"main")?, second)?.is_ok()),
         Line::Withdraw => Ok(server.withdraw(name(b"main")?).is_some()),

@@ -188,36 +188,58 @@ worker 4 rejects 65536 2\n\
 worker 4 waits\n\
 worker 4 drops NoBuffer\n";
 
+static DISCARDS: [Discard; 12] = [
+    Discard::Frame(FrameFault::NotForUs),
+    Discard::Frame(FrameFault::UdpChecksum),
+    Discard::Header(HeaderFault::Reserved),
+    Discard::Kind,
+    Discard::Foreign,
+    Discard::NoBuffer,
+    Discard::NoRoom,
+    Discard::NoCell,
+    Discard::Stale,
+    Discard::Taken,
+    Discard::Lost,
+    Discard::Unused,
+];
+
+/// Workers, and what they do.
+static WORK: [(u8, Did); 11] = [
+    (1, Did::Claims),
+    (1, Did::Admits),
+    (1, Did::Runs),
+    (1, Did::Replies),
+    (2, Did::Drops(Unfit::Lost)),
+    (3, Did::Begins),
+    (4, Did::Takes),
+    (4, Did::Rests),
+    (4, Did::Rejects(2)),
+    (4, Did::Waits),
+    (4, Did::Drops(Unfit::NoBuffer)),
+];
+
+fn put_discards(out: &mut Page) -> Result<(), AllocError> {
+    for discard in &DISCARDS {
+        put_discard(out, *discard)?;
+    }
+    Ok(())
+}
+
+fn put_all_work(out: &mut Page) -> Result<(), AllocError> {
+    for (worker, did) in WORK {
+        put_work(out, worker, 65536, did)?;
+    }
+    Ok(())
+}
+
 #[test]
 fn packets_come_and_workers_step(rt: HostRuntime) -> Result<(), Fail> {
-    let alloc = rt.alloc();
-    let mut out = Page::of(Vec::new(alloc));
+    let mut out = Page::of(Vec::new(rt.alloc()));
     put_ready(&mut out, 1)?;
     put_frame(&mut out, 1, &[0x00, 0xff, 0x9a])?;
-    put_discard(&mut out, Discard::Frame(FrameFault::NotForUs))?;
-    put_discard(&mut out, Discard::Frame(FrameFault::UdpChecksum))?;
-    put_discard(&mut out, Discard::Header(HeaderFault::Reserved))?;
-    put_discard(&mut out, Discard::Kind)?;
-    put_discard(&mut out, Discard::Foreign)?;
-    put_discard(&mut out, Discard::NoBuffer)?;
-    put_discard(&mut out, Discard::NoRoom)?;
-    put_discard(&mut out, Discard::NoCell)?;
-    put_discard(&mut out, Discard::Stale)?;
-    put_discard(&mut out, Discard::Taken)?;
-    put_discard(&mut out, Discard::Lost)?;
-    put_discard(&mut out, Discard::Unused)?;
+    put_discards(&mut out)?;
     put_idle(&mut out, 1)?;
-    put_work(&mut out, 1, 65536, Did::Claims)?;
-    put_work(&mut out, 1, 65536, Did::Admits)?;
-    put_work(&mut out, 1, 65536, Did::Runs)?;
-    put_work(&mut out, 1, 65536, Did::Replies)?;
-    put_work(&mut out, 2, 65536, Did::Drops(Unfit::Lost))?;
-    put_work(&mut out, 3, 65536, Did::Begins)?;
-    put_work(&mut out, 4, 65536, Did::Takes)?;
-    put_work(&mut out, 4, 65536, Did::Rests)?;
-    put_work(&mut out, 4, 65536, Did::Rejects(2))?;
-    put_work(&mut out, 4, 65536, Did::Waits)?;
-    put_work(&mut out, 4, 65536, Did::Drops(Unfit::NoBuffer))?;
+    put_all_work(&mut out)?;
     assert!(rt; out.into_text().as_slice() == STEPS);
     Ok(())
 }
