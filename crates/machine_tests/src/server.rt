@@ -249,13 +249,9 @@ fn is_served(
 fn the_service_adds_up(rt: HostRuntime) -> Result<(), Fail> {
     let alloc = rt.alloc();
     let mut server = booted(alloc)?;
-    let mut number = 65536;
-    for ran in SUMS {
-        assert!(rt;
-            is_served(alloc, &mut server, number, ran)?,
-            "call {number}"
-        );
-        number += 1;
+    for place in 0..7 {
+        let number = 65536 + place as u64;
+        assert!(rt; is_served(alloc, &mut server, number, SUMS[place])?);
     }
     Ok(())
 }
