@@ -1,7 +1,7 @@
 //! The worker's rules, row by row, on the calls of the server machine. The packets are of call 65536 of process 1 of
 //! machine 2, where they are of no other.
 
-use crate::server_trial::{
+use crate::trial::{
     ACK, ACKED, Added, CALL, CallerPacket, EARLIER, FIRST, LATER, Line, PROBE, RESULT, SECOND,
     ServerPacket, booted, first_other,
 };

@@ -1,6 +1,6 @@
 //! What no row has: binds, refused calls, entries that aren't there, the list of ready packets, and the test service.
 
-use crate::server_trial::{
+use crate::trial::{
     ACK, ACKED, Added, CALL, CLIENT, CallerPacket, Line, PROBE, SERVICE, ServerPacket, booted,
     first_other, header_of, step_of, take,
 };

@@ -1,6 +1,6 @@
 //! The server's exports, its restarts, and calls with long arguments and results.
 
-use crate::server_trial::{
+use crate::trial::{
     ACK, ACKED, Added, CALL, CLIENT, CallerPacket, EARLIER, FIRST, LATER, Line, PROBE, RESULT,
     SECOND, ServerPacket, booted, first_other, header_of, name, take,
 };

@@ -1,0 +1,10 @@
+//! Tests of `replay_packets` and `replay_client` through their public calls, in a crate of their own so that those crates
+//! aren't proved a second time with them.
+#![tactic(auto)]
+
+#[cfg(test)]
+mod calls;
+#[cfg(test)]
+mod packets;
+#[cfg(test)]
+mod states;
