@@ -36,7 +36,7 @@ fn null_call(machine: u8, process: u8) -> Event
 /// A process of machine 2 calls in vain: it sends its call eight times, and gives up.
 fn call_in_vain(alloc: Global, world: &mut World, process: u8) -> Result<(), AllocError>
     requires process { (1 ≤ process) × (process ≤ LAST_PROCESS) }
-    requires few { AllBelow 100000 world.old }
+    requires few { AllBelow 50000 world.old }
     ensures { OnOk result (RoseByAtMost 2000 world.old world.new) }
 {
     played(alloc, world, &null_call(2, process))?;

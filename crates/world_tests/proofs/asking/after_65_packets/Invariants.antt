@@ -3,4 +3,4 @@ use Rattle.replay_world.specs.Stored.{AllBelow}
 use Rattle.world_tests.proofs.asking.after_65_packets.Given as goal
 
 abbrev pub invariant-loop-process : goal.invariant-loop-process
-invariant-loop-process g l = AllBelow (2000 * l.process) l.world
+invariant-loop-process l = AllBelow (2000 * l.process) l.world
