@@ -1,24 +1,18 @@
 //! The commands of the program.
 
-ghost use Rattle.std.specs.Prelude.{◌≡◌, ◌≤◌, ◌⊎◌, ℕ, [], Some, true, false, map, string_bytes, IsErr, IfErr, IfOk};
+ghost use Rattle.std.specs.Prelude.{◌≡◌, ◌≤◌, ◌⊎◌, [], Some, true, false, map, string_bytes, IsErr, IfErr, IfOk};
 ghost use Rattle.std.specs.IoError.{error_kind};
 ghost use Rattle.command_words.specs.Words.{are_taken, command_of};
-ghost use Rattle.ffrpc.specs.Outside.{input, output, WroteUnlessFailed};
-ghost use Rattle.ffrpc.specs.Replay.{Replays};
-ghost use Rattle.ffrpc.specs.Status.{fault_line, status_of_words};
-ghost use Rattle.ffrpc.specs.Storm.{Storms};
-ghost use Rattle.ffrpc.specs.Stubs.{Stubs};
+ghost use Rattle.commands.specs.Outside.{input, output, WroteUnlessFailed};
+ghost use Rattle.commands.specs.Replay.{Replays};
+ghost use Rattle.commands.specs.Status.{fault_line, status_of_words};
+ghost use Rattle.commands.specs.Storm.{Storms};
+ghost use Rattle.commands.specs.Stubs.{Stubs};
 ghost use Rattle.storm_model.specs.declared.options.StormOptions.{StormOptions};
 
-use crate::replay::{end_with, run_replay};
-use crate::status::Status;
-use crate::storm::run_storm;
-use crate::stubs::run_stubs;
 use command_words::{Command, WordsFault, read_command};
+use commands::{Status, end_with, end_without_memory, run_replay, run_storm, run_stubs};
 use ff_io::{Sink, Source};
-use once_law::{once_after_any_events, packets_survive_any_events};
-use rpc_header::a_spelling_is_32_bytes;
-use script_text::{no_fault_where_spelled, one_reading};
 use std::alloc::Global;
 use std::io;
 
@@ -99,27 +93,4 @@ pub fn ffrpc<S: Source, K: Sink>(
         Err(WordsFault::Usage) => end_with(sink, Status::Usage),
         Err(WordsFault::Memory) => end_without_memory(source, sink),
     }
-}
-
-/// Ends a run for want of memory to read its words. So may the run of any command end.
-fn end_without_memory<S: Source, K: Sink>(source: &S, sink: &mut K) -> Status
-    ensures same { result ≡ Status.NoMemory }
-    ensures replays { Replays result
-        (input (S.left source.now) (S.faults source.now)) (input (S.left source.now) (S.faults source.now))
-        (output (K.written sink.old) (K.faults sink.old)) (output (K.written sink.new) (K.faults sink.new)) }
-    ensures stubs { Stubs result
-        (input (S.left source.now) (S.faults source.now)) (input (S.left source.now) (S.faults source.now))
-        (output (K.written sink.old) (K.faults sink.old)) (output (K.written sink.new) (K.faults sink.new)) }
-    ensures storms { (seed calls : ℕ) → Storms result seed calls
-        (output (K.written sink.old) (K.faults sink.old)) (output (K.written sink.new) (K.faults sink.new)) }
-    ensures line { WroteUnlessFailed [] (fault_line result)
-        (output (K.written sink.old) (K.faults sink.old)) (output (K.written sink.new) (K.faults sink.new)) }
-    ensures count { K.faults sink.old ≤ K.faults sink.new }
-{
-    one_reading();
-    no_fault_where_spelled();
-    once_after_any_events();
-    packets_survive_any_events();
-    a_spelling_is_32_bytes();
-    end_with(sink, Status::NoMemory)
 }

@@ -2,16 +2,7 @@
 #![tactic(auto)]
 
 mod command;
-mod drawing;
-mod fault_line;
-mod plan_text;
-mod replay;
-mod rounds;
-mod status;
-mod storm;
 mod streams;
-mod stubs;
-mod summary;
 
 use command::run_words;
 use std::process::ExitCode;

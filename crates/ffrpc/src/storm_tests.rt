@@ -3,8 +3,7 @@
 ghost use Rattle.std.specs.Prelude.{◌≤◌};
 ghost use Rattle.storm_model.specs.declared.options.TheConstants.{MOST_CALLS};
 
-use crate::status::Status;
-use crate::storm::run_storm;
+use commands::{Status, run_storm};
 use ff_io::{MemorySink, Short};
 use std::alloc::{AllocError, Global};
 use storm_model::StormOptions;

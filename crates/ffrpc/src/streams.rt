@@ -5,7 +5,7 @@ ghost use Rattle.std.specs.Prelude.{◌≡◌, ◌↔◌, ◌≤◌, ◌<◌, []
 ghost use Rattle.std.specs.Io.KnownBytes.{ReadConsumes, WriteAppends};
 ghost use Rattle.ff_io.specs.Count.{Rose};
 ghost use Rattle.ff_io.specs.Told.{Appended, Gave};
-ghost use Rattle.ffrpc.specs.Outside.{untold};
+ghost use Rattle.commands.specs.Outside.{untold};
 
 use ff_io::{ReadFailed, Sink, Source, WriteFailed};
 use std::io::{Read, Write};

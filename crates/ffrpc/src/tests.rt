@@ -3,8 +3,8 @@
 ghost use Rattle.std.specs.Prelude.{◌≤◌};
 
 use crate::command::ffrpc;
-use crate::status::Status;
 use crate::storm_tests::SMALL_SUMMARY;
+use commands::Status;
 use ff_io::{MemorySink, MemorySource, Short};
 use std::alloc::{AllocError, Global};
 use std::test::Fail;

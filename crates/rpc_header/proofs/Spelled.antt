@@ -1,11 +1,11 @@
 -- What is read without a fault is the spelling of what it says.
 use Rattle.std.proofs.Common.{◌≡◌, ◌<◌, ◌≤◌, ◌+◌, ◌-◌, ◌^◌, ◌%◌, ◌||◌, not, ◌==◌, nat_lt, ℕ, zero, suc, true, false, List, ◌++◌, length, take, drop, is_none, unwrap_or, refl, ap, sym, subst, ◌∙◌, arith}
+use Rattle.std.specs.Prelude.{All}
 use Rattle.std.proofs.lemmas.List.{length-drop, drop-drop, take-append-drop}
 use Rattle.std.proofs.lemmas.Bool.{eqb-true, leb-false, ltb-false, or_parts}
 use Rattle.std.proofs.lemmas.Bool.Decides.{nat_tests}
 use Rattle.std.proofs.Math.Nat.{mod-eq_of_lt}
 use Rattle.std.proofs.lemmas.List.Elements.{All-drop}
-use Rattle.item_list.specs.Bytes.{AreBytes}
 use Rattle.byteorder.specs.Endian.{big_bytes, big_number}
 use Rattle.byteorder.specs.Numbers.{big_from-lt}
 use Rattle.rpc_header.specs.declared.Header.{Header}
@@ -18,7 +18,7 @@ use Rattle.rpc_header.proofs.Bytes.{small, bytes_of_number}
 use Rattle.rpc_header.proofs.Faults.{NoFault, accepted, no_fault}
 
 -- a field's bytes, and then what stands behind them
-field : (p n v : ℕ) (xs tail : List ℕ) → p + n ≤ length xs → AreBytes xs → v ≡ number_at p n xs
+field : (p n v : ℕ) (xs tail : List ℕ) → p + n ≤ length xs → All (λ byte. byte < 256) xs → v ≡ number_at p n xs
     → tail ≡ drop (p + n) xs → big_bytes n v ++ tail ≡ drop p xs
 unfolding number_at
 field p n v xs tail room h value rest =
@@ -44,7 +44,7 @@ flags_back (suc (suc (suc (suc n)))) e = absurd (grind (arith, nat_tests))
 version_back : (n : ℕ) → is_none (fragments_of n) ≡ false → 1 ≡ n
 version_back n e = grind arith
 
-number_back : (xs : List ℕ) → AreBytes xs → number_at 12 6 xs % 2 ^ 48 ≡ number_at 12 6 xs
+number_back : (xs : List ℕ) → All (λ byte. byte < 256) xs → number_at 12 6 xs % 2 ^ 48 ≡ number_at 12 6 xs
 unfolding number_at
 number_back xs h = mod-eq_of_lt (big_from-lt 0 6 (drop 12 xs) (small (drop 12 xs) (All-drop (λ byte. byte < 256) 12 xs h)))
 
@@ -86,7 +86,7 @@ reserved_front xs n =
     sym (eqb-true _ _ same)
 
 -- a header without a fault is spelled by the bytes that it was read from
-spelled_front : (xs : List ℕ) → AreBytes xs → NoFault xs
+spelled_front : (xs : List ℕ) → All (λ byte. byte < 256) xs → NoFault xs
     → spelling (header_in xs) (length (drop 32 xs)) ++ drop 32 xs ≡ xs
 unfolding spelling
 spelled_front xs h n =
@@ -126,7 +126,7 @@ has_spelling xs n =
     }
 
 -- what is accepted has a spelling, which the bytes are, with the data behind it
-pub spelled : (xs : List ℕ) (h : Header) (d : List ℕ) → AreBytes xs → read_of xs ≡ Accepted h d
+pub spelled : (xs : List ℕ) (h : Header) (d : List ℕ) → All (λ byte. byte < 256) xs → read_of xs ≡ Accepted h d
     → HasSpelling h (length d) × (xs ≡ spelling h (length d) ++ d)
 spelled xs h d bytes e =
     let told = accepted xs h d e in

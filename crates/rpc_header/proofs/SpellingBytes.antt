@@ -1,9 +1,9 @@
 -- A spelling is bytes, one after another, and 32 of them.
 use Rattle.std.proofs.Common.{◌≡◌, ◌+◌, ◌<◌, ℕ, List, [], ◌∷◌, length, refl, arith}
+use Rattle.std.specs.Prelude.{All}
 use Rattle.std.specs.List.{flat_map}
 use Rattle.std.proofs.lemmas.List.{length-append}
 use Rattle.std.proofs.lemmas.List.Elements.{All-append, All-nil}
-use Rattle.item_list.specs.Bytes.{AreBytes}
 use Rattle.byteorder.specs.Endian.{big_bytes}
 use Rattle.byteorder.specs.Numbers.{length-bytes_high_first}
 use Rattle.rpc_header.specs.declared.Header.{Header}
@@ -24,7 +24,7 @@ fields_count h len (f ∷ fs) =
     let both = length-append (big_bytes (place_of f).bytes (value_in h len f)) (flat_map (λ f. big_bytes (place_of f).bytes (value_in h len f)) fs) in
     omega (arith, one, rest, both)
 
-fields_bytes : (h : Header) (len : ℕ) (fs : List Field) → AreBytes (flat_map (λ f. big_bytes (place_of f).bytes (value_in h len f)) fs)
+fields_bytes : (h : Header) (len : ℕ) (fs : List Field) → All (λ byte. byte < 256) (flat_map (λ f. big_bytes (place_of f).bytes (value_in h len f)) fs)
 fields_bytes h len [] = All-nil (λ byte. byte < 256)
 fields_bytes h len (f ∷ fs) =
     All-append (λ byte. byte < 256) (big_bytes (place_of f).bytes (value_in h len f)) (flat_map (λ f. big_bytes (place_of f).bytes (value_in h len f)) fs)
@@ -34,6 +34,6 @@ pub spelling_count : (h : Header) (len : ℕ) → length (spelling h len) ≡ 32
 unfolding spelling
 spelling_count h len = fields_count h len fields
 
-pub spelling_bytes : (h : Header) (len : ℕ) → AreBytes (spelling h len)
+pub spelling_bytes : (h : Header) (len : ℕ) → All (λ byte. byte < 256) (spelling h len)
 unfolding spelling
 spelling_bytes h len = fields_bytes h len fields

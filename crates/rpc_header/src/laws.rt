@@ -1,8 +1,7 @@
 //! What holds of headers, their spellings and their call numbers. Each function here does nothing: its
 //! contract is the law.
 
-ghost use Rattle.std.specs.Prelude.{◌≡◌, ◌++◌, ℕ, List, length};
-ghost use Rattle.item_list.specs.Bytes.{AreBytes};
+ghost use Rattle.std.specs.Prelude.{◌≡◌, ◌<◌, ◌++◌, ℕ, List, length, All};
 ghost use Rattle.rpc_header.specs.declared.CallNumber.{CallNumber};
 ghost use Rattle.rpc_header.specs.declared.Header.{Header};
 ghost use Rattle.rpc_header.specs.Limits.{header_len};
@@ -18,14 +17,14 @@ pub fn what_is_written_is_read()
 /// What is read as a header and data is the spelling of that header, and then the data. So a
 /// header has no second spelling, and no spelling a second reading.
 pub fn what_is_read_was_written()
-    ensures { (bytes : List ℕ) (h : Header) (d : List ℕ) → AreBytes bytes → read_of bytes ≡ Accepted h d
+    ensures { (bytes : List ℕ) (h : Header) (d : List ℕ) → All (λ byte. byte < 256) bytes → read_of bytes ≡ Accepted h d
         → HasSpelling h (length d) × (bytes ≡ spelling h (length d) ++ d) }
 {}
 
 /// A spelling is 32 bytes, also that of numbers which have no room in their fields.
 pub fn a_spelling_is_32_bytes()
     ensures count { (h : Header) (len : ℕ) → length (spelling h len) ≡ header_len }
-    ensures bytes { (h : Header) (len : ℕ) → AreBytes (spelling h len) }
+    ensures bytes { (h : Header) (len : ℕ) → All (λ byte. byte < 256) (spelling h len) }
 {}
 
 /// A call number is the one call number of its value.
