@@ -1,7 +1,6 @@
 //! The reading of values by a plan.
 ghost use Rattle.std.specs.Prelude.{◌≡◌, ◌≤◌, ◌^◌, ◌-◌, ℕ, List, [], ◌∷◌, max, length, IfOk, Ok, Some};
 ghost use Rattle.marshal_plans.specs.declared.basic.Basic.TheVariants.{Byte};
-ghost use Rattle.marshal_plans.specs.declared.step.Step.TheVariants as step;
 ghost use Rattle.marshal_plans.specs.Data.{Data, group, no_data, datum_then, data_of, datum_of, followed};
 ghost use Rattle.marshal_plans.specs.Forms.{Form, Forms, number};
 ghost use Rattle.marshal_plans.specs.Gets.{TurnsOut, Begins, BeginsWithin, Lessens, read_along};
@@ -10,9 +9,8 @@ ghost use Rattle.marshal_plans.specs.Plan.{plans, IsPlan};
 ghost use Rattle.marshal_plans.specs.Reading.{reads, reads_all, times, decoded};
 ghost use Rattle.marshal_plans.specs.Steps.{Gives, IsStep, parts_len};
 
-use crate::basic::Basic;
 use crate::fault::GetFault;
-use crate::instruction::{Extent, Instruction};
+use crate::instruction::Instruction;
 use crate::levels::{Left, MAX_GROUPS};
 use crate::plan::Plan;
 use crate::reading::{bytes_at, count_at, number_at};
@@ -164,57 +162,19 @@ fn read_step<'a, 'b>(
     ensures bound { IfOk result (λ r. BeginsWithin (max (2 ^ 32 - 1) (parts_len step.entry)) r.0) }
 {
     match step {
-        Step::Item(basic) => read_number(total, basic, bytes),
-        Step::Bytes(extent) => read_bytes(alloc, total, extent, bytes),
-        Step::Array(extent, element) => read_head(total, extent, element, bytes),
+        Step::Item(basic) => {
+            let (value, rest) = number_at(total, basic, bytes)?;
+            Ok((Begun::Whole(Value::Number(value)), rest))
+        }
+        Step::Bytes(extent) => {
+            let (count, rest) = count_at(total, extent, bytes)?;
+            let (text, rest) = bytes_at(alloc, total, count, rest)?;
+            Ok((Begun::Whole(Value::Group(Values::of_bytes(text))), rest))
+        }
+        Step::Array(extent, element) => {
+            let (count, rest) = count_at(total, extent, bytes)?;
+            Ok((Begun::Group(Left::Elements(count, element)), rest))
+        }
         Step::Record(parts) => Ok((Begun::Group(Left::Fields(parts)), bytes)),
     }
-}
-
-/// Reads a value that is one number.
-fn read_number<'a, 'b>(
-    total: usize,
-    basic: Basic,
-    bytes: &'b [u8],
-) -> Result<(Begun<'a>, &'b [u8]), GetFault>
-    requires { length bytes.now ≤ total }
-    ensures begins { (f : Form) → IsStep f (step.Item basic) → Begins total f bytes.now (read_along result) }
-    ensures within { IfOk result (λ r. length r.1.now ≤ length bytes.now) }
-    ensures bound { IfOk result (λ r. BeginsWithin (2 ^ 32 - 1) r.0) }
-{
-    let (value, rest) = number_at(total, basic, bytes)?;
-    Ok((Begun::Whole(Value::Number(value)), rest))
-}
-
-/// Reads an array of bytes.
-fn read_bytes<'a, 'b>(
-    alloc: Global,
-    total: usize,
-    extent: Extent,
-    bytes: &'b [u8],
-) -> Result<(Begun<'a>, &'b [u8]), GetFault>
-    requires { length bytes.now ≤ total }
-    ensures begins { (f : Form) → IsStep f (step.Bytes extent) → Begins total f bytes.now (read_along result) }
-    ensures within { IfOk result (λ r. length r.1.now ≤ length bytes.now) }
-    ensures bound { IfOk result (λ r. BeginsWithin (2 ^ 32 - 1) r.0) }
-{
-    let (count, rest) = count_at(total, extent, bytes)?;
-    let (text, rest) = bytes_at(alloc, total, count, rest)?;
-    Ok((Begun::Whole(Value::Group(Values::of_bytes(text))), rest))
-}
-
-/// Reads what stands before the elements of another array.
-fn read_head<'a, 'b>(
-    total: usize,
-    extent: Extent,
-    element: &'a [Instruction],
-    bytes: &'b [u8],
-) -> Result<(Begun<'a>, &'b [u8]), GetFault>
-    requires { length bytes.now ≤ total }
-    ensures begins { (f : Form) → IsStep f (step.Array extent element.entry) → Begins total f bytes.now (read_along result) }
-    ensures within { IfOk result (λ r. length r.1.now ≤ length bytes.now) }
-    ensures bound { IfOk result (λ r. BeginsWithin (max (2 ^ 32 - 1) (length element.now)) r.0) }
-{
-    let (count, rest) = count_at(total, extent, bytes)?;
-    Ok((Begun::Group(Left::Elements(count, element)), rest))
 }

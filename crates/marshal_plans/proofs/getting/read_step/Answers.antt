@@ -1,16 +1,23 @@
-use Rattle.std.proofs.Common.{subst}
+use Rattle.std.proofs.Common.{◌∙◌, ap, sym, subst, Ok}
+use Rattle.marshal_plans.specs.Data.{Datum, group, no_data, behind_bytes}
 use Rattle.marshal_plans.specs.Steps.{IsStep}
-use Rattle.marshal_plans.proofs.Beginnings.{begin_record}
+use Rattle.marshal_plans.proofs.Beginnings.{begin_record, begin_array, begin_bytes}
+use Rattle.marshal_plans.proofs.ValueData.{datum_group}
 use Rattle.marshal_plans.proofs.getting.read_step.Goals as goal
 
-pub returns-in-Item-clause-begins : goal.returns-in-Item-clause-begins
-returns-in-Item-clause-begins c = λ f is. c.read_number.ensures.begins f (subst (IsStep f) c.in-Item.is is)
+pub returns-in_ok-text-in-Bytes-clause-begins : goal.returns-in_ok-text-in-Bytes-clause-begins
+returns-in_ok-text-in-Bytes-clause-begins c = λ f is.
+    let head = c.in_ok-count-in-Bytes in
+    let text = c.in_ok-text-in-Bytes in
+    begin_bytes c.args.total c.args.bytes.now c.in-Bytes.extent head.count head.rest.now head.ensures f (behind_bytes text.text.items no_data) text.rest.now
+    (subst (IsStep f) c.in-Bytes.is is) text.ensures.read
+    ∙ ap (λ (d : Datum). Ok (d, text.rest.now)) (ap group (sym c.of_bytes.ensures.values) ∙ sym (datum_group c.of_bytes.result))
 
-pub returns-in-Bytes-clause-begins : goal.returns-in-Bytes-clause-begins
-returns-in-Bytes-clause-begins c = λ f is. c.read_bytes.ensures.begins f (subst (IsStep f) c.in-Bytes.is is)
-
-pub returns-in-Array-clause-begins : goal.returns-in-Array-clause-begins
-returns-in-Array-clause-begins c = λ f is. c.read_head.ensures.begins f (subst (IsStep f) c.in-Array.is is)
+pub returns-in_ok-count-in-Array-clause-begins : goal.returns-in_ok-count-in-Array-clause-begins
+returns-in_ok-count-in-Array-clause-begins c = λ f is.
+    let head = c.in_ok-count-in-Array in
+    begin_array c.args.total c.args.bytes.now c.in-Array.extent head.count head.rest.now head.ensures f c.in-Array.element
+    (subst (IsStep f) c.in-Array.is is)
 
 pub returns-in-Record-clause-begins : goal.returns-in-Record-clause-begins
 returns-in-Record-clause-begins c = λ f is. begin_record c.args.total c.args.bytes.now f c.in-Record.parts (subst (IsStep f) c.in-Record.is is)
