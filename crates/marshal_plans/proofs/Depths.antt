@@ -1,9 +1,11 @@
 -- Groups stand in one another at most as deep as types go.
-use Rattle.std.proofs.Common.{◌≡◌, ◌<◌, ◌≤◌, ◌+◌, ◌∙◌, ℕ, suc, max, List, ◌∷◌, length, map, drop, drop-cons, get_or, add-one, ap, sym, arith}
+use Rattle.std.proofs.Common.{◌-◌, ◌⊎◌, inl, inr, Bool, Box, Vec, Global, IsTrue, ◌↔◌, ◌≡◌, ◌<◌, ◌≤◌, ◌+◌, ◌∙◌, ℕ, suc, max, List, ◌∷◌, length, map, drop, drop-cons, get_or, add-one, ap, sym, arith}
 use Rattle.interface_text.specs.declared.shape.Shape.{Shape}
+use Rattle.interface_text.specs.declared.shape.Shape.TheViews.{Array, Open, Fields}
 use Rattle.interface_text.specs.Kinds as kind
 use Rattle.interface_text.specs.Kinds.{Kind, Kinds, kind_of, row}
 use Rattle.marshal_plans.specs.declared.instruction.Instruction.{Instruction}
+use Rattle.marshal_plans.proofs.Shapes.{kind_array, kind_open, kind_fields}
 use Rattle.marshal_plans.specs.Forms.{form_of, forms_of, forms_in}
 use Rattle.interface_text.specs.Depths.{depth, deepest, AreShallow}
 use Rattle.marshal_plans.specs.Plan.{plans, groups, groups_all, IsPlan}
@@ -52,3 +54,16 @@ enough_more levels shapes i s within is fits e =
 pub too_deep : (levels : ℕ) (shapes : List Shape) (i : ℕ) (s : Shape) → i < length shapes → s ≡ get_or shapes i s → levels < depth (kind_of s)
     → Enough levels shapes i → levels < deepest (row (map kind_of shapes))
 too_deep levels shapes i s within is deep e = let cut = cut_depth shapes i s within is in omega (arith, e.most)
+
+-- a group is one deeper than its parts
+pub within_group : (levels inner : ℕ) (r : Bool) (d e : ℕ) → 1 ≤ levels → inner ≡ levels - 1 → e ≡ d + 1 → IsTrue r ↔ (d ≤ inner)
+    → IsTrue r ↔ (e ≤ levels)
+within_group levels inner r d e some is one h = (λ t. omega (arith, h.0 t), λ k. h.1 (omega arith))
+
+pub part_depth : (s : Shape) (part : Box Shape Global) → ((n : ℕ) × (s ≡ Array n part)) ⊎ ((n : ℕ) × (s ≡ Open n part))
+    → depth (kind_of s) ≡ depth (kind_of part.value) + 1
+part_depth s part (inl (n, is)) = ap (λ (t : Shape). depth (kind_of t)) is ∙ ap (λ (k : Kind). depth k) (kind_array n part)
+part_depth s part (inr (n, is)) = ap (λ (t : Shape). depth (kind_of t)) is ∙ ap (λ (k : Kind). depth k) (kind_open n part)
+
+pub fields_depth : (s : Shape) (parts : Vec Shape Global) → s ≡ Fields parts → depth (kind_of s) ≡ deepest (row (map kind_of parts.items)) + 1
+fields_depth s parts is = ap (λ (t : Shape). depth (kind_of t)) is ∙ ap (λ (k : Kind). depth k) (kind_fields parts)

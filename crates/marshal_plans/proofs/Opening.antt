@@ -1,6 +1,7 @@
 -- What a plan's first instruction says of the types that it is the plan of.
-use Rattle.std.proofs.Common.{◌≡◌, ◌+◌, ◌<◌, ◌≤◌, ℕ, suc, Bool, true, false, List, [], ◌∷◌, ◌++◌, length, take, drop, Some, None, refl, ap, ◌∙◌, arith, add-one}
+use Rattle.std.proofs.Common.{◌≡◌, ◌+◌, ◌-◌, ◌<◌, ◌⊎◌, inl, inr, sym, get_or, ◌≤◌, ℕ, suc, Bool, true, false, List, [], ◌∷◌, ◌++◌, length, take, drop, Some, None, refl, ap, ◌∙◌, arith, add-one}
 use Rattle.std.specs.Borrow.{Bor}
+use native.Mathlib.Numerals.{unary_clauses}
 use Rattle.marshal_plans.specs.declared.basic.Basic.{Basic}
 use Rattle.marshal_plans.specs.declared.basic.Basic.TheVariants as basic
 use Rattle.marshal_plans.specs.declared.instruction.Extent.{Extent}
@@ -19,6 +20,15 @@ take_front (x ∷ xs) m ys = ap (λ (l : List Instruction). x ∷ l) (take_front
 drop_front : (xs : List Instruction) (m : Instruction) (ys : List Instruction) → drop (suc (length xs)) ((xs ++ m ∷ []) ++ ys) ≡ ys
 drop_front [] m ys = refl
 drop_front (x ∷ xs) m ys = drop_front xs m ys
+
+take_all : (xs : List Instruction) → take (length xs) xs ≡ xs
+take_all [] = refl
+take_all (x ∷ xs) = ap (λ (l : List Instruction). x ∷ l) (take_all xs)
+
+-- a list is its first instruction and those behind it
+pub whole : (xs : List Instruction) (d i : Instruction) → 1 ≤ length xs → get_or xs 0 d ≡ i → i ∷ take (length xs - 1) (drop 1 xs) ≡ xs
+whole [] d i some is = absurd (omega arith)
+whole (x ∷ xs) d i some is = simp unary_clauses (ap (λ (l : List Instruction). i ∷ l) (take_all xs) ∙ ap (λ (y : Instruction). y ∷ xs) (sym is))
 
 pub opens_item : (ks : Forms) (b : Basic) (rest : Bor (List Instruction)) → Item b ∷ rest.now ≡ plans ks → Opens ks (Some (step.Item b, rest))
 opens_item no_forms b rest e = absurd (cc)
@@ -94,7 +104,7 @@ opens_nothing (form_then (array y k) ks) e = absurd (no (is_byte k) e)
     no false e = cc
 opens_nothing (form_then (record_of fs) ks) e = absurd (cc)
 
-pub opens_next : (ks : Forms) (rest : List Instruction) → Next ∷ rest ≡ plans ks → Opens ks None
+opens_next : (ks : Forms) (rest : List Instruction) → Next ∷ rest ≡ plans ks → Opens ks None
 opens_next no_forms rest e = absurd (cc)
 opens_next (form_then (number c) ks) rest e = absurd (cc)
 opens_next (form_then (array y k) ks) rest e = absurd (no (is_byte k) e)
@@ -104,7 +114,7 @@ opens_next (form_then (array y k) ks) rest e = absurd (no (is_byte k) e)
     no false e = cc
 opens_next (form_then (record_of fs) ks) rest e = absurd (cc)
 
-pub opens_end : (ks : Forms) (rest : List Instruction) → End ∷ rest ≡ plans ks → Opens ks None
+opens_end : (ks : Forms) (rest : List Instruction) → End ∷ rest ≡ plans ks → Opens ks None
 opens_end no_forms rest e = absurd (cc)
 opens_end (form_then (number c) ks) rest e = absurd (cc)
 opens_end (form_then (array y k) ks) rest e = absurd (no (is_byte k) e)
@@ -113,6 +123,10 @@ opens_end (form_then (array y k) ks) rest e = absurd (no (is_byte k) e)
     no true e = cc
     no false e = cc
 opens_end (form_then (record_of fs) ks) rest e = absurd (cc)
+
+pub opens_mark : (ks : Forms) (xs : List Instruction) (d : Instruction) → 1 ≤ length xs → (get_or xs 0 d ≡ Next) ⊎ (get_or xs 0 d ≡ End) → xs ≡ plans ks → Opens ks None
+opens_mark ks xs d some (inl is) e = opens_next ks (take (length xs - 1) (drop 1 xs)) (whole xs d Next some is ∙ e)
+opens_mark ks xs d some (inr is) e = opens_end ks (take (length xs - 1) (drop 1 xs)) (whole xs d End some is ∙ e)
 
 -- behind a loop or a record its parts stand, and the mark
 longer : (xs : List Instruction) (m : Instruction) (ys : List Instruction) → length xs < length ((xs ++ m ∷ []) ++ ys)

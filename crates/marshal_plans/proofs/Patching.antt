@@ -4,6 +4,9 @@ use Rattle.std.proofs.Math.Seq.{set-append_seam}
 use Rattle.std.specs.Result.{OnOk}
 use Rattle.std.proofs.lemmas.List.{map-append}
 use Rattle.interface_text.specs.declared.interface.Procedure.{Procedure}
+use Rattle.interface_text.specs.declared.shape.Shape.{Shape}
+use Rattle.marshal_plans.specs.Forms.{form_in, forms_in}
+use Rattle.marshal_plans.specs.Plan.{plan, plans}
 use Rattle.marshal_plans.specs.declared.plan.PlanPair.{PlanPair}
 use Rattle.marshal_plans.specs.Pairs.{Pair, pair_of, plans_of}
 use Rattle.marshal_plans.specs.declared.instruction.Instruction.{Instruction}
@@ -39,3 +42,17 @@ pairs_more made newer procedures i p pair all within is more same before =
     ∙ ap (λ (x : Pair). map pair_of made ++ (x ∷ rest)) same
     ∙ sym (ap (λ (l : List Procedure). map pair_of made ++ map plans_of l) cut)
     ∙ before
+
+-- what one shape adds, and one more of several
+pub emitted : {T E : Type 0} (r : Result T E) (new start instructions : List Instruction) (s u : Shape) → OnOk r (new ≡ start ++ instructions) → s ≡ u
+    → plan (form_in u) ≡ instructions → OnOk r (new ≡ start ++ plan (form_in s))
+emitted r new start instructions s u h is adds =
+    on_ok_along r new (start ++ instructions) (start ++ plan (form_in s)) h (ap (λ (l : List Instruction). start ++ l) (sym (ap (λ (v : Shape). plan (form_in v)) is ∙ adds)))
+
+pub shapes_more : (all code newer : List Instruction) (shapes : List Shape) (i : ℕ) (s : Shape) → i < length shapes → s ≡ get_or shapes i s
+    → newer ≡ code ++ plan (form_in s) → code ++ plans (forms_in (drop i shapes)) ≡ all → newer ++ plans (forms_in (drop (i + 1) shapes)) ≡ all
+shapes_more all code newer shapes i s within is more before =
+    let rest : List Instruction = plans (forms_in (drop (suc i) shapes)) in
+    let cut : drop i shapes ≡ s ∷ drop (suc i) shapes = drop-cons shapes i s within ∙ ap (λ (w : Shape). w ∷ drop (suc i) shapes) (sym is) in
+    ap (λ (k : ℕ). newer ++ plans (forms_in (drop k shapes))) (add-one i) ∙ ap (λ (l : List Instruction). l ++ rest) more
+    ∙ append_assoc code (plan (form_in s)) rest ∙ ap (λ (l : List Shape). code ++ plans (forms_in l)) (sym cut) ∙ before

@@ -40,7 +40,6 @@ fn are_within(shapes: &[Shape], levels: u8) -> bool
 }
 
 #[cycle(depths)]
-#[tactic(auto, using(crate::proofs::Shapes::kind_array, crate::proofs::Shapes::kind_open, crate::proofs::Shapes::kind_fields))]
 fn is_within(shape: &Shape, levels: u8) -> bool
     ensures { IsTrue result ↔ (depth (kind_of shape.now) ≤ levels) }
 {

@@ -17,7 +17,6 @@ pub enum Step<'a> {
 }
 
 /// The first step of a plan, and the plan behind it.
-#[tactic(auto, using(crate::proofs::Opening::opens_item, crate::proofs::Opening::opens_bytes, crate::proofs::Opening::opens_loop, crate::proofs::Opening::opens_record, crate::proofs::Opening::opens_nothing, crate::proofs::Opening::opens_next, crate::proofs::Opening::opens_end, crate::proofs::Opening::opens_short_loop, crate::proofs::Opening::opens_short_record))]
 pub fn first_of(plan: &[Instruction]) -> Option<(Step, &[Instruction])>
     ensures opens { (fs : Forms) → plan.now ≡ plans fs → Opens fs result }
     ensures behind { IfSome result (λ r. length r.1.now < length plan.now) }
