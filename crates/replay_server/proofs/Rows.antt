@@ -1,11 +1,12 @@
 -- Steps that are rows' steps.
-use Rattle.std.proofs.Common.{◌≡◌, ℕ, List, ◌++◌, Option, Bool, true, false, ap, sym, subst, ◌∙◌, refl}
+use Rattle.std.proofs.Common.{◌≡◌, ℕ, ◌≤◌, ◌<◌, List, ◌++◌, Option, Bool, true, false, ap, sym, subst, ◌∙◌, refl}
 use Rattle.std.specs.Prelude.{unwrap_or}
-use Rattle.std.proofs.lemmas.Bool.{cond-true, cond-false}
+use Rattle.std.proofs.lemmas.Bool.{cond-true, cond-false, le-ltb, lt-ltb}
 use Rattle.rpc_header.specs.declared.Kind.{Kind}
 use Rattle.call_rules.specs.Packet.{Packet}
-use Rattle.call_rules.specs.Entry.{Entry, Word, word_of, is_same_word, judge}
+use Rattle.call_rules.specs.Entry.{Entry, Gather, Word, word_of, is_same_word, judge}
 use Rattle.call_rules.specs.declared.entry.Judged.{Judged}
+use Rattle.call_rules.specs.declared.worker.Did.{Did}
 use Rattle.call_rules.specs.declared.worker.Did.TheVariants as did
 use Rattle.call_rules.specs.declared.worker.Unfit.{Unfit}
 use Rattle.call_rules.specs.declared.worker.Unfit.TheVariants as unfit
@@ -54,3 +55,20 @@ claim_judged long p seen e j same h =
 pub due_last : (p : Packet) (n : ℕ) (bytes payload whole : List ℕ) (next : ℕ) → p.header.last ≡ true → payload ≡ p.payload → whole ≡ bytes ++ payload → admits p whole ≡ on_due p n bytes next
 due_last p n bytes payload whole next last same added =
     ap (λ (xs : List ℕ). admits p xs) (added ∙ ap (λ (xs : List ℕ). bytes ++ xs) same) ∙ sym (cond-true _ _ _ last)
+
+-- the entry is exchanged, and the packet is dropped
+pub exchanges_dropped : (p : Packet) (why : Unfit) (e old new : Entry) (step : Step) → new ≡ e → worker_after p step.next ≡ rules.Resting → step.did ≡ did.Drops why → step.adds ≡ added.Nothing → Exchanges p (rules.exchanges rules.Resting e (did.Drops why)) old new step
+exchanges_dropped p why e old new step entry worker what nothing =
+    record { worker = worker; entry = entry; did = what; adds = subst (λ (a : Adds). StandsFor a rules.Nothing) (sym nothing) refl }
+
+-- the entry is exchanged, and a packet is sent
+pub exchanges_sent : (p sent answer : Packet) (what : Did) (e old new : Entry) (step : Step) → new ≡ e → worker_after p step.next ≡ rules.Resting → step.did ≡ what → step.adds ≡ added.Packet sent → sent ≡ answer → Exchanges p (rules.exchanges_and_sends e what answer) old new step
+exchanges_sent p sent answer what e old new step entry worker did sends is =
+    record { worker = worker; entry = entry; did = did; adds = subst (λ (a : Adds). StandsFor a (rules.APacket answer)) (sym sends) (ap (λ (x : Packet). rules.APacket x) (sym is)) }
+
+-- the row of a piece that was gathered before, and of one that isn't due yet
+pub other_again : (p : Packet) (n : ℕ) (bytes : List ℕ) (next : ℕ) → p.header.fragment < next → rules.exchanges_and_sends (Gather n bytes next) did.Rests (rules.ack_packet p) ≡ rules.on_other p n bytes next
+other_again p n bytes next h = sym (cond-true _ _ _ (lt-ltb p.header.fragment next h))
+
+pub other_skipped : (p : Packet) (n : ℕ) (bytes : List ℕ) (next : ℕ) → next ≤ p.header.fragment → rules.exchanges rules.Resting (Gather n bytes next) (did.Drops unfit.Skipped) ≡ rules.on_other p n bytes next
+other_skipped p n bytes next h = sym (cond-false _ _ _ (le-ltb p.header.fragment next h))
