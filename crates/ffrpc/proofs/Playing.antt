@@ -9,7 +9,8 @@ use Rattle.replay_model.specs.declared.event.Event.TheVariants as event
 use Rattle.replay_model.specs.Lines.{EndsLine}
 use Rattle.replay_model.specs.Record.{Counts, counts_of, no_records}
 use Rattle.replay_model.specs.World as model
-use Rattle.replay_model.specs.Script.{Script, InRange}
+use Rattle.replay_model.specs.Forms.{InRange}
+use Rattle.replay_model.specs.Script.{Script}
 use Rattle.replay_model.specs.Step.{step, outcome, run}
 use Rattle.replay_model.specs.Transcript.{transcript, lines, lines_from}
 use Rattle.replay_world.specs.Kept.{HasNamed}

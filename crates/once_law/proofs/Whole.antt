@@ -6,7 +6,7 @@ use Rattle.replay_model.specs.declared.event.Event.{Event}
 use Rattle.replay_model.specs.declared.event.Event.TheVariants as event
 use Rattle.replay_model.specs.Once.{Once, WasStarted, TellsRun, FailedFor}
 use Rattle.replay_model.specs.Record.{Failure}
-use Rattle.replay_model.specs.Script.{InRange}
+use Rattle.replay_model.specs.Forms.{InRange}
 use Rattle.replay_model.specs.Step.{step, run}
 use Rattle.replay_model.specs.World.{World, numbered, packet_at, first_world}
 use Rattle.once_law.proofs.Lists.{all_of_members}

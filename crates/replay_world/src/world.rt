@@ -5,7 +5,7 @@ ghost use Rattle.replay_model.specs.Record as act;
 ghost use Rattle.replay_model.specs.World as model;
 ghost use Rattle.replay_model.specs.Step as step;
 ghost use Rattle.replay_model.specs.Transcript.{lines};
-ghost use Rattle.replay_model.specs.Script.{InRange, IsAskable};
+ghost use Rattle.replay_model.specs.Forms.{InRange, IsAskable};
 ghost use Rattle.storm_model.specs.OpenCalls.{lost_in};
 ghost use Rattle.replay_world.specs.Stored.{AllBelow, RoseByAtMost, Keeps};
 ghost use Rattle.replay_world.specs.Kept.{HasNamed};

@@ -2,7 +2,7 @@ use Rattle.std.proofs.Common.{◌≡◌, ◌<◌, ◌≤◌, ℕ, ap, subst, ◌
 use Rattle.std.proofs.lemmas.Result.{on_ok_weaker}
 use Rattle.replay_model.specs.Record.{ListsRuns, Ends, counts_of}
 use Rattle.replay_model.specs.Lines.{end_line}
-use Rattle.replay_model.specs.Script.{InRange}
+use Rattle.replay_model.specs.Forms.{InRange}
 use Rattle.replay_model.specs.declared.event.Event.{Event}
 use Rattle.replay_lines.specs.Page.{Page, written}
 use Rattle.replay_world.specs.Kept.{HasNamed}
