@@ -18,8 +18,8 @@ use Rattle.replay_model.specs.declared.limits.TheConstants.{SERVER_MACHINE, FIRS
 use Rattle.replay_model.specs.Arrival.{Arrival, Comes, Dropped, arrives, frame_of}
 use Rattle.replay_model.specs.Process.{Line, LineStep, Said, SaysNothing, Sends, Waits, Returned, Fails, BindFails, BoundTo, NotBound}
 use Rattle.replay_model.specs.Record.{Act}
-use Rattle.replay_model.specs.Step.{Outcome, tells, does, call_by, call_event, bind_by, bind_event, skips, skip_by, skip_event, ticks_line, ticks_client, tick, ticks, tick_event, server_takes, hears, line_takes, client_takes, machine_takes, takes_arrival, receives, deliver_event, damage_event, show_event, adds, works, runs_body, claims_next, work_event, second_event, exports_unless, export_event, withdraws_if, withdraw_event, boots_server, boots_client, restart_event, outcome, settled, step, starts, starts_bind, too_fast, impossible}
-use Rattle.replay_model.specs.World.{World, Client, numbered, packet_at, number_limit, last_number, test_name}
+use Rattle.replay_model.specs.Step.{Outcome, tells, does, call_by, call_event, bind_by, bind_event, skips, last_number, skip_by, skip_event, ticks_line, ticks_client, tick, ticks, tick_event, server_takes, hears, line_takes, client_takes, machine_takes, takes_arrival, receives, deliver_event, damage_event, show_event, adds, works, runs_body, claims_next, work_event, second_event, exports_unless, export_event, withdraws_if, withdraw_event, boots_server, boots_client, restart_event, outcome, settled, step, starts, starts_bind, too_fast, impossible}
+use Rattle.replay_model.specs.World.{World, Client, numbered, packet_at, number_limit, test_name}
 
 -- w' has all packets of w and at most k more, and its second is at most n
 pub record Grown (n k : ℕ) (w w' : World) : Type 0 where

@@ -12,8 +12,8 @@ use Rattle.call_rules.specs.Caller.{State, Idle, is_idle}
 use Rattle.call_rules.specs.Caller as caller
 use Rattle.replay_model.specs.Once.{sent_since}
 use Rattle.replay_model.specs.Process.{Line, binds}
-use Rattle.replay_model.specs.Step.{settled, next_call, starts_bind, bind_by, bind_event, skips, skip_by, skip_event, with_line}
-use Rattle.replay_model.specs.World.{World, Client, numbered, number_limit, last_number, test_name}
+use Rattle.replay_model.specs.Step.{settled, next_call, starts_bind, bind_by, bind_event, skips, last_number, skip_by, skip_event, with_line}
+use Rattle.replay_model.specs.World.{World, Client, numbered, number_limit, test_name}
 use Rattle.lawful_rules.specs.Known.{Known, known}
 use Rattle.lawful_rules.specs.Facts.{HasLength, IsOpenIn, IsLine}
 use Rattle.lawful_rules.specs.Lawful.{ByBind}

@@ -11,8 +11,8 @@ use Rattle.replay_model.specs.declared.discard.Discard.TheVariants as why
 use Rattle.replay_model.specs.Service.{procedure_of, arguments_of}
 use Rattle.replay_model.specs.Process.{Line, LineStep, started, binds, ticked}
 use Rattle.replay_model.specs.Record.{Binds, Skips, Restarts}
-use Rattle.replay_model.specs.World.{World, Client, numbered, number_limit, last_number, test_name, booted_client}
-use Rattle.replay_model.specs.Step.{Outcome, discarded, impossible, nothing, does, starts, starts_bind, too_fast, next_call, call_by, bind_by, skips, skip_by, boots_client, behind, client_takes, line_takes, ticks_line, with_client, with_line}
+use Rattle.replay_model.specs.World.{World, Client, numbered, number_limit, test_name, booted_client}
+use Rattle.replay_model.specs.Step.{Outcome, discarded, impossible, nothing, does, starts, starts_bind, too_fast, next_call, call_by, bind_by, skips, last_number, skip_by, boots_client, behind, client_takes, line_takes, ticks_line, with_client, with_line}
 use Rattle.replay_client.specs.declared.told.Told.{Told}
 use Rattle.replay_client.specs.declared.line.Took.{Took}
 use Rattle.replay_client.specs.Told.{StepsAs, TellsAs}

@@ -9,8 +9,8 @@ use Rattle.replay_model.specs.Process.{Line, LineStep, Said, SaysNothing, Sends,
 use Rattle.replay_model.specs.Record.{Act}
 use Rattle.replay_model.specs.Service.{procedure_of, arguments_of}
 use Rattle.binder.specs.Interfaces.{bind_data}
-use Rattle.replay_model.specs.Step.{Outcome, settled, impossible, nothing, with_client, with_line, tells, does, starts, too_fast, call_by, call_event, starts_bind, bind_by, bind_event, skips, skip_by, skip_event, tick, ticks, ticks_client, ticks_line, quiet_if_none, tick_event}
-use Rattle.replay_model.specs.World.{World, Client, numbered, number_limit, last_number, test_name}
+use Rattle.replay_model.specs.Step.{Outcome, settled, impossible, nothing, with_client, with_line, tells, does, starts, too_fast, call_by, call_event, starts_bind, bind_by, bind_event, skips, last_number, skip_by, skip_event, tick, ticks, ticks_client, ticks_line, quiet_if_none, tick_event}
+use Rattle.replay_model.specs.World.{World, Client, numbered, number_limit, test_name}
 use Rattle.storm_model.specs.OpenCalls.{open_calls}
 use Rattle.storm_law.proofs.Places.{client_is_set, line_is_set}
 use Rattle.storm_law.proofs.Counting.{Accounts, started_by_all, ended_by_all, started_by_both, ended_by_both}
