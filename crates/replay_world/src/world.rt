@@ -19,11 +19,12 @@ mod telling;
 use crate::delivery::hand_over;
 pub use asking::KEPT_PACKETS;
 use ff_io::Station;
-use replay_client::{Called, ClientMachine, Said};
-use replay_lines::{
-    Counts, Page, put_end, put_frame, put_idle, put_impossible, put_quiet, put_runs, put_start,
-    put_too_fast,
-};
+use replay_client::Said;
+use replay_client::machine::{Called, ClientMachine};
+use replay_lines::calls::{put_impossible, put_quiet, put_start, put_too_fast};
+use replay_lines::deliveries::put_frame;
+use replay_lines::work::put_idle;
+use replay_lines::{Counts, Page, put_end, put_runs};
 use replay_model::limits::{CLIENTS, FIRST_CLIENT, LARGEST_COUNT, LAST_CLIENT};
 use replay_model::{CallWord, Event, RunLine};
 use replay_packets::Sent;
