@@ -2,7 +2,8 @@
 
 use binder::{Name, read_name};
 use ff_io::Station;
-use replay_client::{Called, ClientMachine, Said, Skipped, Took, arguments_of, procedure_of};
+use replay_client::machine::{Called, ClientMachine, Skipped};
+use replay_client::{Said, Took, arguments_of, procedure_of};
 use replay_model::{CallWord, Discard};
 use replay_packets::{Arrived, SERVER};
 use rpc_header::{Activity, Header, Kind, fits};

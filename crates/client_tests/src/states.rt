@@ -1,10 +1,10 @@
-//! What a process of a client tells, by its state and what comes; a call and a reply of three pieces each. It is
-//! process 1 of machine 2.
+//! What process 1 of machine 2, a client, tells by its state and what comes; a call and a reply of three pieces each.
 
 use Seen::Sends;
 use binder::read_name;
 use ff_io::Station;
-use replay_client::{Called, Cause, ClientMachine, Said, Told, Took};
+use replay_client::machine::{Called, ClientMachine};
+use replay_client::{Cause, Said, Told, Took};
 use replay_model::{CallWord, Discard};
 use replay_packets::{Arrived, SERVER};
 use rpc_header::{Activity, CallId, CallNumber, Export, Header, Kind, MAX_DATA, fits};

@@ -1,12 +1,8 @@
--- What events leave of a world: no packet is taken out of the bag, few come into it, and the second passes to the one
--- that an event names.
-use Rattle.std.proofs.Common.{◌≡◌, ℕ, zero, suc, ◌+◌, ◌*◌, ◌≤◌, Bool, true, false, cond, List, [], ◌∷◌, ◌++◌, length, Option, Some, None, length-append, arith}
+-- What the events of a storm leave of a world: no packet is taken out of the bag, few come into it, and the second passes
+-- to the one that an event names.
+use Rattle.std.proofs.Common.{ℕ, zero, suc, ◌+◌, ◌*◌, ◌≤◌, Bool, true, false, cond, List, [], ◌∷◌, ◌++◌, length, Option, Some, None, length-append, arith}
 use Rattle.std.specs.Prelude.{◌==◌, nat_lt, nat_le}
 use Rattle.udp_frames.specs.Damage.{flipped}
-use Rattle.binder.specs.declared.interface.InterfaceName.{InterfaceName}
-use Rattle.binder.specs.declared.row.ExportFault.{ExportFault}
-use Rattle.binder.specs.Exports.{export_fault, look_up}
-use Rattle.rpc_header.specs.declared.Export.{Export}
 use Rattle.call_rules.specs.Packet.{Call, Packet}
 use Rattle.call_rules.specs.Caller as caller
 use Rattle.call_rules.specs.Worker.{Worker, Resting, Claimed, Took, Admitted, Ran, Fetched, Adds, Nothing, ARun, APacket, ARejection}
@@ -18,8 +14,8 @@ use Rattle.replay_model.specs.declared.limits.TheConstants.{SERVER_MACHINE, FIRS
 use Rattle.replay_model.specs.Arrival.{Arrival, Comes, Dropped, arrives, frame_of}
 use Rattle.replay_model.specs.Process.{Line, LineStep, Said, SaysNothing, Sends, Waits, Returned, Fails, BindFails, BoundTo, NotBound}
 use Rattle.replay_model.specs.Record.{Act}
-use Rattle.replay_model.specs.Step.{Outcome, tells, does, call_by, call_event, bind_by, bind_event, skips, skip_by, skip_event, ticks_line, ticks_client, tick, ticks, tick_event, server_takes, hears, line_takes, client_takes, machine_takes, takes_arrival, receives, deliver_event, damage_event, show_event, adds, works, runs_body, claims_next, work_event, second_event, exports_unless, export_event, withdraws_if, withdraw_event, boots_server, boots_client, restart_event, outcome, settled, step, starts, starts_bind, too_fast, impossible}
-use Rattle.replay_model.specs.World.{World, Client, numbered, packet_at, number_limit, last_number, test_name}
+use Rattle.replay_model.specs.Step.{Outcome, tells, does, call_by, call_event, bind_by, bind_event, ticks_line, ticks_client, tick, ticks, tick_event, server_takes, line_takes, client_takes, machine_takes, takes_arrival, deliver_event, damage_event, adds, works, claims_next, work_event, boots_client, restart_event, outcome, settled, step}
+use Rattle.replay_model.specs.World.{World, Client, numbered, packet_at, number_limit}
 
 -- w' has all packets of w and at most k more, and its second is at most n
 pub record Grown (n k : ℕ) (w w' : World) : Type 0 where
@@ -85,21 +81,6 @@ unfolding bind_event
 bind_event-grown n w machine process None name few = same n w few
 bind_event-grown n w machine process (Some c) name few = bind_by-grown n w machine process c (numbered 1 c.lines process) name few
 
-skip_by-grown : (n : ℕ) (w : World) (machine process : ℕ) (c : Client) (l : Option Line) (count : ℕ) → w.second ≤ n
-    → Grown n 1 w (skip_by w machine process c l count).world
-unfolding skip_by
-skip_by-grown n w machine process c None count few = same n w few
-skip_by-grown n w machine process c (Some l) count few =
-    either n w (caller.is_idle l.caller.state) _ _
-    (either n w (nat_le (l.next + count) last_number) _ _ (record { second = few; bag = omega arith; most = omega arith }) (same n w few))
-    (same n w few)
-
-skip_event-grown : (n : ℕ) (w : World) (machine process : ℕ) (c : Option Client) (count : ℕ) → w.second ≤ n
-    → Grown n 1 w (skip_event w machine process c count).world
-unfolding skip_event
-skip_event-grown n w machine process None count few = same n w few
-skip_event-grown n w machine process (Some c) count few = skip_by-grown n w machine process c (numbered 1 c.lines process) count few
-
 ticks_line-grown : (n : ℕ) (w : World) (machine process : ℕ) (c : Client) (l : Option Line) → w.second ≤ n → Grown n 1 w (ticks_line w machine process c l).world
 ticks_line-grown n w machine process c None few = same n w few
 ticks_line-grown n w machine process c (Some l) few = does-grown n w machine process c _ few
@@ -159,10 +140,6 @@ damage_event-grown n w k bit None few = same n w few
 damage_event-grown n w k bit (Some p) few =
     either n w (nat_lt bit (8 * length (frame_of p))) _ _ (takes_arrival-grown n w k (arrives p.to (flipped (frame_of p) bit)) few) (same n w few)
 
-show_event-grown : (n : ℕ) (w : World) (k : ℕ) (p : Option Packet) → w.second ≤ n → Grown n 1 w (show_event w k p).world
-show_event-grown n w k None few = same n w few
-show_event-grown n w k (Some p) few = same n w few
-
 adds-grown : (n : ℕ) (w : World) (told : Act) (a : Adds) → w.second ≤ n → Grown n 1 w (adds w told a).world
 adds-grown n w told Nothing few = same n w few
 adds-grown n w told (ARun run) few = same n w few
@@ -188,22 +165,6 @@ work_event-grown n w who (Some (Admitted p arguments)) few = let done = works-gr
 work_event-grown n w who (Some (Ran p answer)) few = works-grown n w who p _ few
 work_event-grown n w who (Some (Fetched p)) few = works-grown n w who p _ few
 
-exports_unless-grown : (n : ℕ) (fault : Option ExportFault) (w : World) (name : InterfaceName) → w.second ≤ n → Grown n 1 w (exports_unless fault w name).world
-exports_unless-grown n None w name few = record { second = few; bag = omega arith; most = omega arith }
-exports_unless-grown n (Some fault) w name few = record { second = few; bag = omega arith; most = omega arith }
-
-export_event-grown : (n : ℕ) (w : World) (name : List ℕ) → w.second ≤ n → Grown n 1 w (export_event w name).world
-unfolding export_event
-export_event-grown n w name few = exports_unless-grown n (export_fault w.server.exports (test_name name) w.second) w (test_name name) few
-
-withdraws_if-grown : (n : ℕ) (export : Option Export) (w : World) (name : InterfaceName) → w.second ≤ n → Grown n 1 w (withdraws_if export w name).world
-withdraws_if-grown n None w name few = same n w few
-withdraws_if-grown n (Some export) w name few = record { second = few; bag = omega arith; most = omega arith }
-
-withdraw_event-grown : (n : ℕ) (w : World) (name : List ℕ) → w.second ≤ n → Grown n 1 w (withdraw_event w name).world
-unfolding withdraw_event
-withdraw_event-grown n w name few = withdraws_if-grown n (look_up w.server.exports.rows (test_name name)) w (test_name name) few
-
 boots_client-grown : (n : ℕ) (w : World) (machine : ℕ) (c : Option Client) → w.second ≤ n → Grown n 1 w (boots_client w machine c).world
 boots_client-grown n w machine None few = same n w few
 boots_client-grown n w machine (Some c) few = either n w (nat_lt c.read w.second) _ _ (record { second = few; bag = omega arith; most = omega arith }) (same n w few)
@@ -215,11 +176,17 @@ restart_event-grown n w machine few =
     (either n w (nat_lt w.server.read w.second) _ _ (record { second = few; bag = omega arith; most = omega arith }) (same n w few))
     (boots_client-grown n w machine (numbered FIRST_CLIENT w.clients machine) few)
 
--- an event that names no later second than n, and has no more than four ticks
+-- an event that a storm draws, which names no later second than n, and has no more than four ticks
 abbrev pub IsUpTo : ℕ → Event → Type 0
 IsUpTo n (event.Second second) = second ≤ n
+IsUpTo n (event.Call machine process asked) = Unit {0}
+IsUpTo n (event.Bind machine process name) = Unit {0}
 IsUpTo n (event.Tick machine process count) = count ≤ 4
-IsUpTo n _ = Unit {0}
+IsUpTo n (event.Deliver k) = Unit {0}
+IsUpTo n (event.Damage k bit) = Unit {0}
+IsUpTo n (event.Restart machine) = Unit {0}
+IsUpTo n (event.Work number) = Unit {0}
+IsUpTo n _ = ⊥
 
 outcome-grown : (n : ℕ) (w : World) (e : Event) → w.second ≤ n → IsUpTo n e → Grown n 4 w (outcome w e).world
 outcome-grown n w (event.Second second) few up = more n 1 4 w _ (omega arith) (either n w (nat_lt w.second second) _ _ (record { second = up; bag = omega arith; most = omega arith }) (same n w few))
@@ -228,14 +195,9 @@ outcome-grown n w (event.Bind machine process name) few up = more n 1 4 w _ (ome
 outcome-grown n w (event.Tick machine process count) few up = more n count 4 w _ up (tick_event-grown n w machine process count few)
 outcome-grown n w (event.Deliver k) few up = more n 1 4 w _ (omega arith) (deliver_event-grown n w k (packet_at w.bag k) few)
 outcome-grown n w (event.Damage k bit) few up = more n 1 4 w _ (omega arith) (damage_event-grown n w k bit (packet_at w.bag k) few)
-outcome-grown n w (event.Export name) few up = more n 1 4 w _ (omega arith) (export_event-grown n w name few)
-outcome-grown n w (event.Withdraw name) few up = more n 1 4 w _ (omega arith) (withdraw_event-grown n w name few)
 outcome-grown n w (event.Restart machine) few up = more n 1 4 w _ (omega arith) (restart_event-grown n w machine few)
-outcome-grown n w (event.Skip machine process count) few up = more n 1 4 w _ (omega arith) (skip_event-grown n w machine process (numbered FIRST_CLIENT w.clients machine) count few)
-outcome-grown n w (event.Show k) few up = more n 1 4 w _ (omega arith) (show_event-grown n w k (packet_at w.bag k) few)
 outcome-grown n w (event.Work number) few up = more n 1 4 w _ (omega arith) (work_event-grown n w number (numbered 1 w.server.workers number) few)
-outcome-grown n w event.Journal few up = more n 1 4 w _ (omega arith) (same n w few)
-outcome-grown n w event.End few up = more n 1 4 w _ (omega arith) (same n w few)
+outcome-grown n w _ few up = absurd up
 
 pub step-grown : (n : ℕ) (w : World) (e : Event) → w.second ≤ n → IsUpTo n e → Grown n 4 w (step w e)
 unfolding step

@@ -8,7 +8,8 @@ use Rattle.replay_model.specs.Record.{Act}
 use Rattle.replay_model.specs.World.{first_world}
 use Rattle.replay_model.specs.Step.{run}
 use Rattle.replay_model.specs.Once.{Once}
-use Rattle.replay_model.specs.Script.{Script, IsScript, InRange}
+use Rattle.replay_model.specs.Forms.{InRange}
+use Rattle.replay_model.specs.Script.{Script, IsScript}
 use Rattle.replay_model.specs.TextFault.{first_fault}
 
 -- after any events that a script can have Once holds

@@ -13,7 +13,7 @@ use Rattle.replay_model.specs.declared.event.Event.{Event}
 use Rattle.replay_model.specs.declared.limits.TheConstants.{LAST_BIT, SMALL_BUFFERS, LONG_BUFFERS}
 use Rattle.replay_model.specs.Arrival.{frame_of, header_of}
 use Rattle.replay_model.specs.Record.{Counts, counts_of, no_records}
-use Rattle.replay_model.specs.Script.{InRange}
+use Rattle.replay_model.specs.Forms.{InRange}
 use Rattle.replay_model.specs.Step.{run, step}
 use Rattle.replay_model.specs.World.{World, first_world, packet_at}
 use Rattle.replay_packets.specs.Sent.{sent_of}

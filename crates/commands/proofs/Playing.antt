@@ -9,7 +9,8 @@ use Rattle.replay_model.specs.declared.event.Event.TheVariants as event
 use Rattle.replay_model.specs.Lines.{EndsLine}
 use Rattle.replay_model.specs.Record.{Counts, counts_of, no_records}
 use Rattle.replay_model.specs.World as model
-use Rattle.replay_model.specs.Script.{Script, InRange}
+use Rattle.replay_model.specs.Forms.{InRange}
+use Rattle.replay_model.specs.Script.{Script}
 use Rattle.replay_model.specs.Step.{step, outcome, run}
 use Rattle.replay_model.specs.Transcript.{transcript, lines, lines_from}
 use Rattle.replay_world.specs.Kept.{HasNamed}
@@ -64,20 +65,10 @@ Playing-start nothing s world x stands bag forgotten counts started lost = recor
 
 -- no event names a packet that is forgotten, where none is
 has_named : (world : Stored) (e : Event) → world.forgotten ≡ 0 → InRange e → HasNamed world e
-has_named world (event.Second second) none range = tt
-has_named world (event.Call machine process asked) none range = tt
-has_named world (event.Bind machine process name) none range = tt
-has_named world (event.Tick machine process count) none range = tt
 has_named world (event.Deliver packet) none range = omega (arith, range.0)
 has_named world (event.Damage packet bit) none range = omega (arith, range.0)
-has_named world (event.Export name) none range = tt
-has_named world (event.Withdraw name) none range = tt
-has_named world (event.Restart machine) none range = tt
-has_named world (event.Skip machine process count) none range = tt
 has_named world (event.Show packet) none range = omega (arith, range.0)
-has_named world (event.Work number) none range = tt
-has_named world event.Journal none range = tt
-has_named world event.End none range = tt
+has_named world _ none range = tt
 
 pub Playing-named : (s : Script) (i : ℕ) (world : Stored) (events : List Event) (e : Event) (out : List ℕ) (old new : Output) → All InRange s.events
     → Playing s i world out old new → i < length s.events → events ≡ s.events → e ≡ get_or events i e → HasNamed world e

@@ -8,7 +8,7 @@ use Rattle.replay_model.specs.declared.event.CallWord.TheVariants as word
 use Rattle.replay_model.specs.declared.event.Event.{Event}
 use Rattle.replay_model.specs.declared.event.Event.TheVariants as event
 use Rattle.replay_model.specs.declared.limits.TheConstants.{LAST_BIT}
-use Rattle.replay_model.specs.Script.{InRange, IsProcess}
+use Rattle.replay_model.specs.Forms.{InRange, IsProcess}
 use Rattle.replay_model.specs.Step.{run, step}
 use Rattle.replay_model.specs.World.{World, packet_at}
 use Rattle.storm_model.specs.declared.options.TheConstants.{MOST_CALLS}

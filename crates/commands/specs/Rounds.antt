@@ -5,7 +5,7 @@ use Rattle.replay_model.specs.declared.event.CallWord.{CallWord}
 use Rattle.replay_model.specs.declared.event.Event.{Event}
 use Rattle.replay_model.specs.declared.event.Event.TheVariants as event
 use Rattle.replay_model.specs.Arrival.{frame_of}
-use Rattle.replay_model.specs.Script.{InRange}
+use Rattle.replay_model.specs.Forms.{InRange}
 use Rattle.replay_model.specs.Step.{run}
 use Rattle.replay_model.specs.World.{World}
 use Rattle.replay_world.specs.Stands.{Stands}

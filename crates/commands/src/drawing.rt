@@ -1,7 +1,7 @@
 //! What a round of a storm draws: a process, what is asked of it, one of the last packets.
 
 ghost use Rattle.std.specs.Prelude.{◌≡◌, ◌≤◌, ◌<◌, ◌+◌, ◌-◌, ◌^◌, ℕ, min, IfSome};
-ghost use Rattle.replay_model.specs.Script.{IsAskable, IsProcess};
+ghost use Rattle.replay_model.specs.Forms.{IsAskable, IsProcess};
 ghost use Rattle.replay_model.specs.World as model;
 ghost use Rattle.storm_model.specs.Draws.{draw};
 ghost use Rattle.storm_model.specs.Rounds.{asks, machine_of, process_of};

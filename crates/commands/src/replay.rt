@@ -3,7 +3,7 @@
 ghost use Rattle.std.specs.Prelude.{◌≡◌, ◌≤◌, ◌<◌, ℕ, List, [], length, take, IfOk, IfErr, IsErrOf, OnOk, OnErr, vec_len, IfSome, All};
 ghost use Rattle.ff_io.specs.Count.{Rose};
 ghost use Rattle.ff_io.specs.Told.{Appended};
-ghost use Rattle.replay_model.specs.Script.{InRange};
+ghost use Rattle.replay_model.specs.Forms.{InRange};
 ghost use Rattle.replay_model.specs.Transcript.{transcript};
 ghost use Rattle.script_text.specs.Reading.{script_of};
 ghost use Rattle.commands.specs.Outside.{input, output, Flushed};

@@ -4,7 +4,7 @@ ghost use Rattle.std.specs.Prelude.{◌≡◌, ◌≤◌, ◌<◌, ◌+◌, ◌*
 ghost use Rattle.std.specs.Option.{option_map};
 ghost use Rattle.replay_model.specs.declared.limits.TheConstants.{LAST_BIT};
 ghost use Rattle.replay_model.specs.World.{packet_at};
-ghost use Rattle.replay_model.specs.Script.{IsAskable, IsProcess};
+ghost use Rattle.replay_model.specs.Forms.{IsAskable, IsProcess};
 ghost use Rattle.storm_model.specs.declared.options.TheConstants.{MOST_CALLS};
 ghost use Rattle.storm_model.specs.Rounds.{calm, damage_round, deliver_round, restart_round, round_of, rounds_of, starts_round, tick_round, work_round};
 ghost use Rattle.storm_model.specs.Summary.{summary_of, summary_over};

@@ -1,26 +1,24 @@
--- The invariant is kept where a process starts a bind, and where it passes over numbers.
-use Rattle.std.proofs.Common.{◌≡◌, ℕ, ◌+◌, ◌<◌, ◌≤◌, List, [], ◌∷◌, length, Option, Some, None, true, refl, arith, leb}
+-- The invariant is kept where a process starts a bind.
+use Rattle.std.proofs.Common.{◌≡◌, ℕ, ◌<◌, ◌≤◌, List, [], ◌∷◌, length, Option, Some, None, true, refl, arith, leb}
 use Rattle.std.specs.Prelude.{IsTrue, ◌||◌, ◌&&◌}
 use Rattle.std.specs.List.{list_all}
-use Rattle.std.proofs.lemmas.Bool.{false≢true, leb-true, leb-false, and_parts}
+use Rattle.std.proofs.lemmas.Bool.{leb-true, leb-false, and_parts}
 use Rattle.std.proofs.lemmas.Bool.Decides.{nat_tests}
 use Rattle.std.proofs.lemmas.List.Elements.{All-nil, All-cons, All-append}
 use Rattle.item_list.specs.Bytes.{AreBytes}
 use Rattle.binder.specs.Interfaces.{bind_data, counted}
 use Rattle.binder.specs.Names.{is_name, is_letter, is_digit, begins_with_letter}
-use Rattle.call_rules.specs.Caller.{State, Idle, is_idle}
-use Rattle.call_rules.specs.Caller as caller
+use Rattle.call_rules.specs.Caller.{is_idle}
 use Rattle.replay_model.specs.Once.{sent_since}
 use Rattle.replay_model.specs.Process.{Line, binds}
-use Rattle.replay_model.specs.Step.{settled, next_call, starts_bind, bind_by, bind_event, skips, skip_by, skip_event, with_line}
-use Rattle.replay_model.specs.World.{World, Client, numbered, number_limit, last_number, test_name}
-use Rattle.lawful_rules.specs.Known.{Known, known}
-use Rattle.lawful_rules.specs.Facts.{HasLength, IsOpenIn, IsLine}
+use Rattle.replay_model.specs.Step.{settled, next_call, starts_bind, bind_by, bind_event}
+use Rattle.replay_model.specs.World.{World, Client, numbered, number_limit, test_name}
+use Rattle.lawful_rules.specs.Known.{known}
+use Rattle.lawful_rules.specs.Facts.{HasLength}
 use Rattle.lawful_rules.specs.Lawful.{ByBind}
-use Rattle.once_law.proofs.Places.{line_at_read, rewrites, rewritten}
+use Rattle.once_law.proofs.Places.{line_at_read}
 use Rattle.once_law.proofs.Parts.{Holds}
 use Rattle.once_law.proofs.Laws.{Laws}
-use Rattle.once_law.proofs.Acting.{names_kept, reads_kept}
 use Rattle.once_law.proofs.Does.{does-keeps}
 use Rattle.once_law.proofs.Calls.{either, Holds-too_fast}
 
@@ -83,64 +81,3 @@ pub Holds-bind : Laws → (w : World) (m p : ℕ) (name : List ℕ) (o : Option 
 unfolding bind_event
 Holds-bind laws w m p name None is h e = h
 Holds-bind laws w m p name (Some c) is h e = Holds-bind_by laws w m p c name (numbered 1 c.lines p) is h e refl
-
--- Skipped numbers.
-
--- an idle process has nothing open, whichever its next number is
-idle_open : (k : Known) (l : Line) (st : State) → is_idle st ≡ true → IsOpenIn k l st
-idle_open k l Idle e = tt
-idle_open k l (caller.Sending i) e = absurd (false≢true e)
-idle_open k l caller.Waiting e = absurd (false≢true e)
-idle_open k l (caller.Receiving j) e = absurd (false≢true e)
-idle_open k l caller.Binding e = absurd (false≢true e)
-
-skipped_line : {k : Known} {m p : ℕ} {l : Line} (next : ℕ) → is_idle l.caller.state ≡ true → IsLine k m p l → IsLine k m p (record l { next = next })
-skipped_line {k} {m} {p} {l} next idle h =
-    record {
-      own_activity = h.own_activity;
-      has_entry = h.has_entry;
-      has_room = record {
-        hint = h.has_room.hint;
-        number = h.has_room.number;
-        identifier = h.has_room.identifier;
-        index = h.has_room.index;
-        procedure = h.has_room.procedure;
-        bound_identifier = h.has_room.bound_identifier;
-        bound_index = h.has_room.bound_index;
-        arguments = h.has_room.arguments;
-      };
-      is_open = idle_open k (record l { next = next }) l.caller.state idle;
-    }
-
-Holds-skips : (w : World) (m p : ℕ) (c : Client) (l : Line) (count : ℕ) → Holds w → numbered 2 w.clients m ≡ Some c → numbered 1 c.lines p ≡ Some l → is_idle l.caller.state ≡ true → Holds (settled w (skips w m p c l (l.next + count)))
-Holds-skips w m p c l count h ec el idle =
-    let next : ℕ = l.next + count in
-    let new : Line = record l { next = next } in
-    let there = line_at_read w.clients m p c l ec el in
-    let r = rewrites w.clients m p c (with_line c p new) l new ec el refl in
-    either w (leb next last_number) _ _
-    (λ fits. record {
-      names = names_kept r (omega arith) refl h.names;
-      reads = reads_kept w.second w.clients m c (with_line c p new) w.records.started ec (omega arith) (h.reads.read_first m c ec) h.reads;
-      lives = h.lives;
-      lines = rewritten r (IsLine (known w)) (λ n q j g ne. h.lines n q j g) (skipped_line next idle (h.lines m p l there));
-      unreturned = rewritten r _ (λ n q j g ne. h.unreturned n q j g) (h.unreturned m p l there);
-      marks = rewritten r _ (λ n q j g ne. h.marks n q j g) (h.marks m p l there);
-      sent = h.sent;
-      ready = h.ready;
-      workers = h.workers;
-      entries = h.entries;
-      told = h.told;
-    })
-    (λ beyond. h)
-
-Holds-skip_by : (w : World) (m p : ℕ) (c : Client) (count : ℕ) (o : Option Line) → Holds w → numbered 2 w.clients m ≡ Some c → numbered 1 c.lines p ≡ o → Holds (settled w (skip_by w m p c o count))
-unfolding skip_by
-Holds-skip_by w m p c count None h ec el = h
-Holds-skip_by w m p c count (Some l) h ec el =
-    either w (is_idle l.caller.state) _ _ (λ idle. Holds-skips w m p c l count h ec el idle) (λ busy. h)
-
-pub Holds-skip : (w : World) (m p count : ℕ) (o : Option Client) → Holds w → numbered 2 w.clients m ≡ o → Holds (settled w (skip_event w m p o count))
-unfolding skip_event
-Holds-skip w m p count None h e = h
-Holds-skip w m p count (Some c) h e = Holds-skip_by w m p c count (numbered 1 c.lines p) h e refl

@@ -6,7 +6,7 @@ use Rattle.replay_model.specs.declared.event.CallWord.{CallWord}
 use Rattle.replay_model.specs.Once.{call_of_run, sent_since}
 use Rattle.replay_model.specs.Process.{Line, started, ticked}
 use Rattle.replay_model.specs.Record.{Records, Act, recorded, recorded_all}
-use Rattle.replay_model.specs.Script.{IsAskable}
+use Rattle.replay_model.specs.Forms.{IsAskable}
 use Rattle.replay_model.specs.Service.{procedure_of, arguments_of}
 use Rattle.replay_model.specs.Step.{Outcome, settled, next_call, starts, too_fast, call_by, call_event, tick, ticks, ticks_client, ticks_line, quiet_if_none, tick_event}
 use Rattle.replay_model.specs.World.{World, Client, numbered, with_numbered, line_at, number_limit}

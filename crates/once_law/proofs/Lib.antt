@@ -16,4 +16,5 @@ pub mod Packets
 pub mod Binding
 pub mod Booting
 pub mod Lifetimes
+pub mod Steps
 pub mod Whole

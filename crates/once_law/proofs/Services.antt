@@ -11,7 +11,7 @@ use Rattle.item_list.specs.Bytes.{AreBytes}
 use Rattle.replay_model.specs.declared.event.CallWord.{CallWord}
 use Rattle.replay_model.specs.declared.event.CallWord.TheVariants as word
 use Rattle.replay_model.specs.declared.limits.TheConstants.{LARGEST_TEXT}
-use Rattle.replay_model.specs.Script.{largest_number, IsAskable}
+use Rattle.replay_model.specs.Forms.{largest_number, IsAskable}
 use Rattle.replay_model.specs.Service.{procedure_of, arguments_of, text_of, counted_text, is_counted, served, adds, bumps, gives_text, replies, raises}
 use Rattle.lawful_rules.specs.Facts.{HasLength, HasReply}
 

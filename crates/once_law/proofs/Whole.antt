@@ -1,42 +1,20 @@
 -- The invariant holds after any events, and `Once` follows from it.
-use Rattle.std.proofs.Common.{suc, List, [], ◌∷◌, refl, arith}
+use Rattle.std.proofs.Common.{suc, List, [], ◌∷◌, arith}
 use Rattle.std.specs.Prelude.{ℕ, All, Contains}
 use Rattle.call_rules.specs.Packet.{Packet}
 use Rattle.replay_model.specs.declared.event.Event.{Event}
-use Rattle.replay_model.specs.declared.event.Event.TheVariants as event
 use Rattle.replay_model.specs.Once.{Once, WasStarted, TellsRun, FailedFor}
 use Rattle.replay_model.specs.Record.{Failure}
-use Rattle.replay_model.specs.Script.{InRange}
+use Rattle.replay_model.specs.Forms.{InRange}
 use Rattle.replay_model.specs.Step.{step, run}
-use Rattle.replay_model.specs.World.{World, numbered, packet_at, first_world}
+use Rattle.replay_model.specs.World.{World, first_world}
 use Rattle.once_law.proofs.Lists.{all_of_members}
 use Rattle.once_law.proofs.Places.{packet_number}
 use Rattle.once_law.proofs.Parts.{Holds}
 use Rattle.once_law.proofs.Laws.{Laws}
 use Rattle.once_law.proofs.Arriving.{CanArrive, sent_can_arrive}
-use Rattle.once_law.proofs.Calls.{Holds-call, Holds-tick}
-use Rattle.once_law.proofs.Packets.{Holds-deliver, Holds-damage, Holds-show, Holds-work}
-use Rattle.once_law.proofs.Binding.{Holds-bind, Holds-skip}
-use Rattle.once_law.proofs.Lifetimes.{Holds-second, Holds-export, Holds-withdraw, Holds-restart}
+use Rattle.once_law.proofs.Steps.{Holds-step}
 use Rattle.once_law.proofs.Booting.{Holds-first}
-
--- each event keeps the invariant
-Holds-step : Laws → (w : World) (e : Event) → InRange e → Holds w → Holds (step w e)
-unfolding step
-Holds-step laws w (event.Second second) r h = Holds-second w second (omega (arith, r.1)) h
-Holds-step laws w (event.Call m p asked) r h = Holds-call laws.rules w m p asked (numbered 2 w.clients m) r.1 h refl
-Holds-step laws w (event.Bind m p name) r h = Holds-bind laws w m p name (numbered 2 w.clients m) r.1 h refl
-Holds-step laws w (event.Deliver k) r h = Holds-deliver laws w k (packet_at w.bag k) h refl
-Holds-step laws w (event.Damage k bit) r h = Holds-damage laws w k bit (packet_at w.bag k) h refl
-Holds-step laws w (event.Tick m p count) r h = Holds-tick laws.rules w m p count h
-Holds-step laws w (event.Export name) r h = Holds-export laws w name h
-Holds-step laws w (event.Withdraw name) r h = Holds-withdraw laws w name h
-Holds-step laws w (event.Restart m) r h = Holds-restart laws w m r.0 r.1 h
-Holds-step laws w (event.Skip m p count) r h = Holds-skip w m p count (numbered 2 w.clients m) h refl
-Holds-step laws w (event.Show k) r h = Holds-show w k (packet_at w.bag k) h
-Holds-step laws w (event.Work n) r h = Holds-work laws w n (numbered 1 w.server.workers n) h refl
-Holds-step laws w event.Journal r h = h
-Holds-step laws w event.End r h = h
 
 Holds-run : Laws → (w : World) (events : List Event) → All InRange events → Holds w → Holds (run w events)
 Holds-run laws w [] r h = h

@@ -13,7 +13,7 @@ ghost use Rattle.call_rules.specs.Packet.{Packet};
 ghost use Rattle.replay_model.specs.declared.event.Event.{Event};
 ghost use Rattle.replay_model.specs.Arrival.{Comes, header_of, frame_of, arrives};
 ghost use Rattle.replay_model.specs.Once.{Once};
-ghost use Rattle.replay_model.specs.Script.{InRange};
+ghost use Rattle.replay_model.specs.Forms.{InRange};
 ghost use Rattle.replay_model.specs.Step.{run};
 ghost use Rattle.replay_model.specs.World.{first_world};
 

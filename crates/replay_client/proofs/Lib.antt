@@ -2,5 +2,4 @@ pub mod Boot
 pub mod Rows
 pub mod Steps
 pub mod Numbered
-pub mod Outcomes
 pub mod OpenCalls

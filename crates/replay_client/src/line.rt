@@ -189,8 +189,8 @@ impl ClientLine {
     /// Passes over so many call numbers, and gives the number of its next call; `None` exactly where the numbers would
     /// be used up.
     pub fn skip(&mut self, by: u32) -> Option<u64>
-        ensures { MatchOption result ((model.last_number < self.old.next + by) × (self.new ≡ self.old))
-            (λ next. (next ≡ self.old.next + by) × (next ≤ model.last_number) × (self.new ≡ record self.old { next = next })) }
+        ensures { MatchOption result ((step.last_number < self.old.next + by) × (self.new ≡ self.old))
+            (λ next. (next ≡ self.old.next + by) × (next ≤ step.last_number) × (self.new ≡ record self.old { next = next })) }
     {
         let next = self.next.checked_add(u64::from(by))?;
         if next > LAST_NUMBER {

@@ -5,7 +5,7 @@ ghost use Rattle.rpc_header.specs.Spelling.{HasSpelling};
 ghost use Rattle.replay_model.specs.World as model;
 ghost use Rattle.replay_model.specs.World.{numbered};
 ghost use Rattle.replay_model.specs.Step as step;
-ghost use Rattle.replay_model.specs.Script.{IsAskable};
+ghost use Rattle.replay_model.specs.Forms.{IsAskable};
 ghost use Rattle.storm_model.specs.OpenCalls.{open_of};
 ghost use Rattle.storm_model.specs.Rounds.{is_idle_line};
 

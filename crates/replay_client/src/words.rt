@@ -4,7 +4,7 @@ ghost use Rattle.std.specs.Prelude.{◌≡◌, ◌≤◌, length, IfOk};
 ghost use Rattle.byteorder.specs.Endian.{big_bytes};
 ghost use Rattle.fragments.specs.declared.limits.TheConstants.{LONG, PIECE};
 ghost use Rattle.binder.specs.Interfaces.{bind_data};
-ghost use Rattle.replay_model.specs.Script.{IsAskable};
+ghost use Rattle.replay_model.specs.Forms.{IsAskable};
 ghost use Rattle.replay_model.specs.Service as rules;
 ghost use Rattle.replay_model.specs.World.{test_name};
 

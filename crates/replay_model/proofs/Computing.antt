@@ -9,11 +9,11 @@ use Rattle.binder.specs.Interfaces.{name_in, bind_data}
 use Rattle.call_rules.specs.Worker.{on_idle, on_claimed, on_took, on_admitted, on_ran, on_fetched}
 use Rattle.replay_model.specs.Arrival.{frame_of, arrives}
 use Rattle.replay_model.specs.Lines.{bytes_text}
-use Rattle.replay_model.specs.Step.{call_by, call_event, server_takes, line_takes, client_takes, machine_takes, deliver_event, damage_event, does, tick, tick_event, works, claims_next, work_event, bind_by, bind_event, skip_by, skip_event, export_event, withdraw_event, restart_event, step}
+use Rattle.replay_model.specs.Step.{steps}
 use Rattle.replay_model.specs.Process.{started, binds, heard, ticked}
 use Rattle.replay_model.specs.Service.{text_of}
 use Rattle.replay_model.specs.Transcript.{lines}
 
 unfoldable pub computing : Unit {0}
-unfolding digits reduced finish_of spelling number_at applies read_of frame_of arrives bytes_text call_by call_event server_takes line_takes client_takes machine_takes deliver_event damage_event does started heard ticked tick tick_event works claims_next work_event on_idle on_claimed on_took on_admitted on_ran on_fetched piece front accepts look_up exported name_in bind_data export_fault withdrawn text_of binds bind_by bind_event skip_by skip_event export_event withdraw_event restart_event step lines
+unfolding digits reduced finish_of spelling number_at applies read_of frame_of arrives bytes_text started heard ticked on_idle on_claimed on_took on_admitted on_ran on_fetched piece front accepts look_up exported name_in bind_data export_fault withdrawn text_of binds lines steps
 computing = tt

@@ -1,7 +1,10 @@
--- The forms of a script's lines, as one table: a row for each form, with what each word of its lines must be.
-use Rattle.std.specs.Prelude.{ℕ, List, [], ◌∷◌, ◌++◌, Option, Some, None, codes}
+-- The forms of a script's lines, as one table: a row for each form, with what each word of its lines must be. Behind
+-- it, what numbers and names the events of these forms have.
+use Rattle.std.specs.Prelude.{ℕ, ◌≤◌, List, [], ◌∷◌, ◌++◌, Option, Some, None, codes, IsTrue}
 use Rattle.std.specs.List.{slice_index_or}
+use Rattle.binder.specs.Names.{is_name}
 use Rattle.replay_model.specs.declared.limits.TheConstants.{SERVER_MACHINE, FIRST_CLIENT, LAST_CLIENT, LAST_PROCESS, LAST_WORKER, LAST_BIT, LARGEST_COUNT, LARGEST_TEXT, LARGEST_NUMBER}
+use Rattle.replay_model.specs.declared.event.CallWord.{CallWord}
 use Rattle.replay_model.specs.declared.event.CallWord.TheVariants as word
 use Rattle.replay_model.specs.declared.event.Event.{Event}
 use Rattle.replay_model.specs.declared.event.Event.TheVariants as event
@@ -115,3 +118,36 @@ other_forms =
 
 abbrev pub forms : List Form
 forms = call_forms ++ other_forms
+
+-- the largest number of 32 bits
+abbrev pub largest_number : ℕ
+largest_number = LARGEST_NUMBER
+
+-- the numbers that a call asks with are those that a line can have
+abbrev pub IsAskable : CallWord → Type 0
+IsAskable word.Null = Unit {0}
+IsAskable (word.Add a b) = (a ≤ largest_number) × (b ≤ largest_number)
+IsAskable (word.Bump n) = n ≤ largest_number
+IsAskable (word.MaxArg n) = n ≤ LARGEST_TEXT
+IsAskable (word.MaxResult n) = n ≤ largest_number
+
+-- a process of a client
+abbrev pub IsProcess : (machine process : ℕ) → Type 0
+IsProcess machine process = (FIRST_CLIENT ≤ machine) × (machine ≤ LAST_CLIENT) × (1 ≤ process) × (process ≤ LAST_PROCESS)
+
+-- the numbers and names of an event are those that a line can have
+abbrev pub InRange : Event → Type 0
+InRange (event.Second second) = (1 ≤ second) × (second ≤ largest_number)
+InRange (event.Call machine process asked) = IsProcess machine process × IsAskable asked
+InRange (event.Bind machine process name) = IsProcess machine process × IsTrue (is_name name)
+InRange (event.Tick machine process count) = IsProcess machine process × (1 ≤ count) × (count ≤ LARGEST_COUNT)
+InRange (event.Export name) = IsTrue (is_name name)
+InRange (event.Withdraw name) = IsTrue (is_name name)
+InRange (event.Restart machine) = (SERVER_MACHINE ≤ machine) × (machine ≤ LAST_CLIENT)
+InRange (event.Skip machine process count) = IsProcess machine process × (1 ≤ count) × (count ≤ largest_number)
+InRange (event.Deliver packet) = (1 ≤ packet) × (packet ≤ largest_number)
+InRange (event.Damage packet bit) = (1 ≤ packet) × (packet ≤ largest_number) × (bit ≤ LAST_BIT)
+InRange (event.Show packet) = (1 ≤ packet) × (packet ≤ largest_number)
+InRange (event.Work number) = (1 ≤ number) × (number ≤ LAST_WORKER)
+InRange event.Journal = Unit {0}
+InRange event.End = Unit {0}

@@ -80,10 +80,13 @@ header_text h =
     kind_text h.kind ++ blank ++ decimal h.call.number ++ codes "/" ++ decimal h.fragment ++ blank ++ flags_text h
 
 -- a packet by its number, its sender, its receiver, its header and the length of its data
-abbrev pub packet_line : (number from to : ℕ) → Fields → (len : ℕ) → List ℕ
-packet_line number from to h len =
+abbrev pub packet_text : (number from to : ℕ) → Fields → (len : ℕ) → List ℕ
+packet_text number from to h len =
     codes "packet " ++ decimal number ++ blank ++ decimal from ++ codes ">" ++ decimal to ++ blank ++ header_text h ++ blank
-    ++ decimal len ++ newline
+    ++ decimal len
+
+abbrev pub packet_line : (number from to : ℕ) → Fields → (len : ℕ) → List ℕ
+packet_line number from to h len = packet_text number from to h len ++ newline
 
 -- a procedure by its name, where the test service has it
 abbrev pub procedure_text : ℕ → List ℕ
@@ -117,10 +120,10 @@ abbrev pub journal_lines : List RunDigest → List ℕ
 journal_lines [] = codes "journal empty" ++ newline
 journal_lines (r ∷ rs) = run_lines 1 (r ∷ rs)
 
-abbrev pub end_line : Counts → List ℕ
-end_line c =
+abbrev pub end_text : Counts → List ℕ
+end_text c =
     codes "end runs " ++ decimal c.runs ++ codes " returned " ++ decimal c.returned ++ codes " signalled "
-    ++ decimal c.signalled ++ codes " failed " ++ decimal c.failed ++ codes " refused " ++ decimal c.refused ++ newline
+    ++ decimal c.signalled ++ codes " failed " ++ decimal c.failed ++ codes " refused " ++ decimal c.refused
 
 abbrev pub unfit_text : Unfit → List ℕ
 unfit_text unfit.Older = codes "Older"
@@ -190,19 +193,22 @@ discard_text why.Taken = codes "Taken"
 discard_text why.Lost = codes "Lost"
 discard_text why.Unused = codes "Unused"
 
+abbrev pub return_text : Call → Bool → Digest → List ℕ
+return_text call false reply = codes "returned " ++ call_text call ++ blank ++ bytes_text reply
+return_text call true reply = codes "signalled " ++ call_text call ++ blank ++ decimal (exception_number reply)
+
 abbrev pub return_line : Call → Bool → Digest → List ℕ
-return_line call false reply = codes "returned " ++ call_text call ++ blank ++ bytes_text reply ++ newline
-return_line call true reply = codes "signalled " ++ call_text call ++ blank ++ decimal (exception_number reply) ++ newline
+return_line call signal reply = return_text call signal reply ++ newline
 
 -- a call that failed: no transmission of so many was answered, or the server refused it for a reason
-abbrev pub failure_line : Call → Cause → List ℕ
-failure_line call Unanswered = codes "failed " ++ call_text call ++ blank ++ decimal TRIES ++ newline
-failure_line call (RefusedFor reason) = codes "refused " ++ call_text call ++ blank ++ decimal reason ++ newline
+abbrev pub failure_text : Call → Cause → List ℕ
+failure_text call Unanswered = codes "failed " ++ call_text call ++ blank ++ decimal TRIES
+failure_text call (RefusedFor reason) = codes "refused " ++ call_text call ++ blank ++ decimal reason
 
 -- a bind that has found an export
-abbrev pub bound_line : Call → Export → List ℕ
-bound_line call export =
-    codes "bound " ++ call_text call ++ blank ++ decimal export.index ++ blank ++ decimal export.identifier ++ newline
+abbrev pub bound_text : Call → Export → List ℕ
+bound_text call export =
+    codes "bound " ++ call_text call ++ blank ++ decimal export.index ++ blank ++ decimal export.identifier
 
 -- why a name isn't exported
 abbrev pub no_export_text : ExportFault → List ℕ
@@ -212,41 +218,54 @@ no_export_text (export_fault.TooFast next second) = codes "TooFast " ++ decimal 
 no_export_text export_fault.Memory = codes "Memory"
 
 -- a frame by its length and its bytes
-abbrev pub frame_line : ℕ → List ℕ → List ℕ
-frame_line k bytes = codes "frame " ++ decimal k ++ blank ++ decimal (length bytes) ++ blank ++ hex bytes ++ newline
+abbrev pub frame_text : ℕ → List ℕ → List ℕ
+frame_text k bytes = codes "frame " ++ decimal k ++ blank ++ decimal (length bytes) ++ blank ++ hex bytes
+
+-- what is printed of one thing that happens: nothing, one line with this text, or a line for each run of a journal
+pub data Printed : Type 0 where
+  Silent : Printed
+  OneLine : (text : List ℕ) → Printed
+  Runs : List RunDigest → Printed
+
+abbrev pub printed_of : Act → Printed
+printed_of act.Impossible = OneLine (codes "impossible")
+printed_of (act.Seconds second) = OneLine (codes "second " ++ decimal second)
+printed_of (act.Binds call) = OneLine (codes "bind " ++ call_text call)
+printed_of (act.Starts s) = OneLine (codes "start " ++ call_text s.call)
+printed_of (act.TooFast a number second) = OneLine (codes "nostart TooFast " ++ decimal number ++ blank ++ decimal second)
+printed_of (act.CallerSends k p) = OneLine (packet_text k p.from p.to p.header (length p.payload))
+printed_of (act.ServerSends k p) = OneLine (packet_text k p.from p.to p.header (length p.payload))
+printed_of (act.Readies k) = OneLine (codes "ready " ++ decimal k)
+printed_of (act.Hears a k) = Silent
+printed_of (act.TellsWaiting call) = OneLine (codes "waiting " ++ call_text call)
+printed_of (act.Returns r) = OneLine (return_text r.call r.signal (digest r.reply))
+printed_of (act.Fails call cause) = OneLine (failure_text call cause)
+printed_of (act.BindFails call) = OneLine (codes "bindfailed " ++ call_text call ++ blank ++ decimal TRIES)
+printed_of (act.BindsTo call export) = OneLine (bound_text call export)
+printed_of (act.Unbinds call) = OneLine (codes "unbound " ++ call_text call)
+printed_of act.Quiet = OneLine (codes "quiet")
+printed_of (act.Discards reason) = OneLine (codes "drop " ++ discard_text reason)
+printed_of (act.Idles number) = OneLine (codes "worker " ++ decimal number ++ codes " idle")
+printed_of (act.Works number n step) = OneLine (codes "worker " ++ decimal number ++ blank ++ did_text n step)
+printed_of (act.HasRun run) = Silent
+printed_of (act.Rejects k rows) = Silent
+printed_of (act.Exports export) = OneLine (codes "export " ++ decimal export.index ++ blank ++ decimal export.identifier)
+printed_of (act.NoExport fault) = OneLine (codes "noexport " ++ no_export_text fault)
+printed_of (act.Withdraws index) = OneLine (codes "withdrawn " ++ decimal index)
+printed_of (act.Restarts machine second) = OneLine (codes "restarted " ++ decimal machine ++ blank ++ decimal second)
+printed_of (act.Skips a next) = OneLine (codes "skipped " ++ activity_text a ++ blank ++ decimal next)
+printed_of (act.Shows k bytes) = OneLine (frame_text k bytes)
+printed_of (act.ListsRuns runs) = Runs (map run_digest runs)
+printed_of (act.Ends counts) = OneLine (end_text counts)
+
+abbrev pub lines_printed : Printed → List ℕ
+lines_printed Silent = []
+lines_printed (OneLine text) = text ++ newline
+lines_printed (Runs runs) = journal_lines runs
 
 -- the lines of one thing that happens
 abbrev pub lines_of_act : Act → List ℕ
-lines_of_act act.Impossible = codes "impossible" ++ newline
-lines_of_act (act.Seconds second) = codes "second " ++ decimal second ++ newline
-lines_of_act (act.Binds call) = codes "bind " ++ call_text call ++ newline
-lines_of_act (act.Starts s) = codes "start " ++ call_text s.call ++ newline
-lines_of_act (act.TooFast a number second) = codes "nostart TooFast " ++ decimal number ++ blank ++ decimal second ++ newline
-lines_of_act (act.CallerSends k p) = packet_line k p.from p.to p.header (length p.payload)
-lines_of_act (act.ServerSends k p) = packet_line k p.from p.to p.header (length p.payload)
-lines_of_act (act.Readies k) = codes "ready " ++ decimal k ++ newline
-lines_of_act (act.Hears a k) = []
-lines_of_act (act.TellsWaiting call) = codes "waiting " ++ call_text call ++ newline
-lines_of_act (act.Returns r) = return_line r.call r.signal (digest r.reply)
-lines_of_act (act.Fails call cause) = failure_line call cause
-lines_of_act (act.BindFails call) = codes "bindfailed " ++ call_text call ++ blank ++ decimal TRIES ++ newline
-lines_of_act (act.BindsTo call export) = bound_line call export
-lines_of_act (act.Unbinds call) = codes "unbound " ++ call_text call ++ newline
-lines_of_act act.Quiet = codes "quiet" ++ newline
-lines_of_act (act.Discards reason) = codes "drop " ++ discard_text reason ++ newline
-lines_of_act (act.Idles number) = codes "worker " ++ decimal number ++ codes " idle" ++ newline
-lines_of_act (act.Works number n step) = codes "worker " ++ decimal number ++ blank ++ did_text n step ++ newline
-lines_of_act (act.HasRun run) = []
-lines_of_act (act.Rejects k rows) = []
-lines_of_act (act.Exports export) =
-    codes "export " ++ decimal export.index ++ blank ++ decimal export.identifier ++ newline
-lines_of_act (act.NoExport fault) = codes "noexport " ++ no_export_text fault ++ newline
-lines_of_act (act.Withdraws index) = codes "withdrawn " ++ decimal index ++ newline
-lines_of_act (act.Restarts machine second) = codes "restarted " ++ decimal machine ++ blank ++ decimal second ++ newline
-lines_of_act (act.Skips a next) = codes "skipped " ++ activity_text a ++ blank ++ decimal next ++ newline
-lines_of_act (act.Shows k bytes) = frame_line k bytes
-lines_of_act (act.ListsRuns runs) = journal_lines (map run_digest runs)
-lines_of_act (act.Ends counts) = end_line counts
+lines_of_act a = lines_printed (printed_of a)
 
 abbrev pub lines_of : List Act → List ℕ
 lines_of [] = []

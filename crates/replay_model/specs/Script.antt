@@ -4,9 +4,7 @@ use Rattle.std.specs.List.{slice_split, AllZip, Contains}
 use Rattle.std.specs.Fmt.{decimal}
 use Rattle.binder.specs.Names.{is_name}
 use Rattle.replay_model.specs.Forms.{Place, The, Number, Name, Value, Numeral, Text, Form, forms}
-use Rattle.replay_model.specs.declared.limits.TheConstants.{SERVER_MACHINE, FIRST_CLIENT, LAST_CLIENT, LAST_PROCESS, LAST_WORKER, LAST_BIT, LARGEST_COUNT, LARGEST_TEXT, LARGEST_NUMBER, SMALL_BUFFERS, LONG_BUFFERS}
-use Rattle.replay_model.specs.declared.event.CallWord.{CallWord}
-use Rattle.replay_model.specs.declared.event.CallWord.TheVariants as word
+use Rattle.replay_model.specs.declared.limits.TheConstants.{SMALL_BUFFERS, LONG_BUFFERS}
 use Rattle.replay_model.specs.declared.event.Event.{Event}
 use Rattle.replay_model.specs.declared.event.Event.TheVariants as event
 
@@ -52,10 +50,6 @@ is_skipped ((b ∷ word) ∷ more) = b == 35
 abbrev pub lines_of_words : List ℕ → List (List (List ℕ))
 lines_of_words text = filter (λ (ws : List (List ℕ)). not (is_skipped ws)) (map words_of (lines_of_text text))
 
--- the largest number of 32 bits
-abbrev pub largest_number : ℕ
-largest_number = LARGEST_NUMBER
-
 -- n, from low to high, in decimal digits without a leading zero
 pub record IsNumber (w : List ℕ) (low high n : ℕ) : Type 0 where
   pub digits : w ≡ decimal n
@@ -83,35 +77,6 @@ pub record Spells (words : List (List ℕ)) (e : Event) : Type 0 where
   pub event : List Value → Event
   pub built : form.event ≡ Some event
   pub gives : e ≡ event values
-
--- the numbers that a call asks with are those that a line can have
-abbrev pub IsAskable : CallWord → Type 0
-IsAskable word.Null = Unit {0}
-IsAskable (word.Add a b) = (a ≤ largest_number) × (b ≤ largest_number)
-IsAskable (word.Bump n) = n ≤ largest_number
-IsAskable (word.MaxArg n) = n ≤ LARGEST_TEXT
-IsAskable (word.MaxResult n) = n ≤ largest_number
-
--- a process of a client
-abbrev pub IsProcess : (machine process : ℕ) → Type 0
-IsProcess machine process = (FIRST_CLIENT ≤ machine) × (machine ≤ LAST_CLIENT) × (1 ≤ process) × (process ≤ LAST_PROCESS)
-
--- the numbers and names of an event are those that a line can have
-abbrev pub InRange : Event → Type 0
-InRange (event.Second second) = (1 ≤ second) × (second ≤ largest_number)
-InRange (event.Call machine process asked) = IsProcess machine process × IsAskable asked
-InRange (event.Bind machine process name) = IsProcess machine process × IsTrue (is_name name)
-InRange (event.Tick machine process count) = IsProcess machine process × (1 ≤ count) × (count ≤ LARGEST_COUNT)
-InRange (event.Export name) = IsTrue (is_name name)
-InRange (event.Withdraw name) = IsTrue (is_name name)
-InRange (event.Restart machine) = (SERVER_MACHINE ≤ machine) × (machine ≤ LAST_CLIENT)
-InRange (event.Skip machine process count) = IsProcess machine process × (1 ≤ count) × (count ≤ largest_number)
-InRange (event.Deliver packet) = (1 ≤ packet) × (packet ≤ largest_number)
-InRange (event.Damage packet bit) = (1 ≤ packet) × (packet ≤ largest_number) × (bit ≤ LAST_BIT)
-InRange (event.Show packet) = (1 ≤ packet) × (packet ≤ largest_number)
-InRange (event.Work number) = (1 ≤ number) × (number ≤ LAST_WORKER)
-InRange event.Journal = Unit {0}
-InRange event.End = Unit {0}
 
 abbrev pub is_end : Event → Bool
 is_end event.End = true

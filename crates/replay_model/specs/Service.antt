@@ -3,7 +3,7 @@ use Rattle.std.specs.Prelude.{ℕ, zero, suc, ◌+◌, ◌%◌, List, [], ◌∷
 use Rattle.std.specs.List.{range_with_len}
 use Rattle.byteorder.specs.Endian.{big_bytes, big_number}
 use Rattle.call_rules.specs.Worker.{Answer}
-use Rattle.replay_model.specs.Script.{largest_number}
+use Rattle.replay_model.specs.Forms.{largest_number}
 use Rattle.replay_model.specs.declared.limits.TheConstants.{LARGEST_TEXT}
 use Rattle.replay_model.specs.declared.event.CallWord.{CallWord}
 use Rattle.replay_model.specs.declared.event.CallWord.TheVariants as word

@@ -1,6 +1,5 @@
--- The step of each event: the world after it, and what happens in it. An impossible event leaves the world
--- as it is.
-use Rattle.std.specs.Prelude.{ℕ, zero, suc, ◌+◌, ◌*◌, List, [], ◌∷◌, ◌++◌, length, Option, Some, None, unwrap_or, Bool, ◌==◌, nat_lt, nat_le, if◌then◌else◌}
+-- The step of each event: the world after it, and what happens in it. An impossible event leaves the world as it is.
+use Rattle.std.specs.Prelude.{ℕ, zero, suc, ◌+◌, ◌-◌, ◌*◌, ◌^◌, List, [], ◌∷◌, ◌++◌, length, Option, Some, None, unwrap_or, Bool, ◌==◌, nat_lt, nat_le, if◌then◌else◌}
 use Rattle.std.specs.Option.{option_map}
 use Rattle.udp_frames.specs.Damage.{flipped}
 use Rattle.rpc_header.specs.declared.Activity.{Activity}
@@ -28,7 +27,7 @@ use Rattle.replay_model.specs.Process.{Line, LineStep, Said, SaysNothing, Sends,
 use Rattle.replay_model.specs.Record.{Act, Impossible, Seconds, Starts, Binds, TooFast, CallerSends, ServerSends, Readies, Hears, TellsWaiting, Returns, Quiet, Discards, Idles, Works, HasRun, Rejects, NoExport, Withdraws, Restarts, Skips, Shows, ListsRuns, Ends, counts_of, recorded_all}
 use Rattle.replay_model.specs.Record as act
 use Rattle.replay_model.specs.Arrival.{Arrival, Comes, Dropped, arrives, frame_of}
-use Rattle.replay_model.specs.World.{World, Client, numbered, with_numbered, packet_at, entry_at, with_entry, number_limit, last_number, test_name, booted_server, booted_client, has_buffer}
+use Rattle.replay_model.specs.World.{World, Client, numbered, with_numbered, packet_at, entry_at, with_entry, number_limit, test_name, booted_server, booted_client, has_buffer}
 
 -- what an event does: the world after it but for its records, and what happens
 pub record Outcome : Type 0 where
@@ -93,10 +92,7 @@ starts w machine process c l asked =
 -- a process has used the numbers of this second up; its machine has read the second
 abbrev pub too_fast : World → (machine : ℕ) → Client → Line → Outcome
 too_fast w machine c l =
-    record {
-      world = with_client w machine (record c { read = w.second });
-      acts = TooFast l.caller.activity l.next w.second ∷ [];
-    }
+    record { world = with_client w machine (record c { read = w.second }); acts = TooFast l.caller.activity l.next w.second ∷ [] }
 
 -- a process is asked to start a call
 unfoldable pub call_by : World → (machine process : ℕ) → Client → Option Line → CallWord → Outcome
@@ -129,6 +125,10 @@ bind_by w machine process c (Some l) name =
 unfoldable pub bind_event : World → (machine process : ℕ) → Option Client → (name : List ℕ) → Outcome
 bind_event w machine process None name = impossible w
 bind_event w machine process (Some c) name = bind_by w machine process c (numbered 1 c.lines process) name
+
+-- the largest number that a call can have
+abbrev pub last_number : ℕ
+last_number = 2 ^ 48 - 1
 
 -- an idle process passes over numbers, unless they would be used up
 abbrev pub skips : World → (machine process : ℕ) → Client → Line → (next : ℕ) → Outcome
@@ -391,3 +391,8 @@ step w e = settled w (outcome w e)
 abbrev pub run : World → List Event → World
 run w [] = w
 run w (e ∷ es) = run (step w e) es
+
+-- what a worked transcript computes with: to unfold `steps` is to unfold each definition that its line names
+unfoldable pub steps : Unit {0}
+unfolding does call_by call_event bind_by bind_event skip_by skip_event tick tick_event server_takes line_takes client_takes machine_takes deliver_event damage_event works claims_next work_event export_event withdraw_event restart_event step
+steps = tt

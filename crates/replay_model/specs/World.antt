@@ -1,5 +1,5 @@
 -- The world: a second, a server, its clients, every packet that was sent, and the records.
-use Rattle.std.specs.Prelude.{ℕ, ◌+◌, ◌-◌, ◌*◌, ◌^◌, List, [], map, replicate, Option, None, slice_get, slice_set, Bool, true, ◌&&◌, nat_lt, nat_le, if◌then◌else◌, option_and_then, codes}
+use Rattle.std.specs.Prelude.{ℕ, ◌+◌, ◌-◌, ◌*◌, List, [], map, replicate, Option, None, slice_get, slice_set, Bool, true, ◌&&◌, nat_lt, nat_le, if◌then◌else◌, option_and_then, codes}
 use Rattle.std.specs.List.{range_with_len}
 use Rattle.rpc_header.specs.declared.Activity.{Activity}
 use Rattle.rpc_header.specs.declared.Export.{Export}
@@ -71,10 +71,6 @@ with_entry entries a e = if is_entry_activity a then slice_set entries (entry_pl
 -- a machine's first call number, by the second in which it booted
 abbrev pub first_number : ℕ → ℕ
 first_number boot = boot * 65536
-
--- the largest number that a call can have
-abbrev pub last_number : ℕ
-last_number = 2 ^ 48 - 1
 
 -- the least number that a call may not have yet, by the second
 abbrev pub number_limit : ℕ → ℕ

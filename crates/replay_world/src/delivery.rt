@@ -9,7 +9,8 @@ ghost use Rattle.replay_world.specs.Stands.{IsServer, AreClients};
 ghost use Rattle.replay_world.specs.Delivery.{HandsOver, HandsToServer, HandsToClient};
 
 use ff_io::Station;
-use replay_client::{ClientMachine, Told, Took};
+use replay_client::machine::ClientMachine;
+use replay_client::{Told, Took};
 use replay_model::Discard;
 use replay_model::limits::FIRST_CLIENT;
 use replay_packets::{Arrived, SERVER, arrive};

@@ -5,7 +5,7 @@ ghost use Rattle.replay_model.specs.Record as act;
 ghost use Rattle.replay_model.specs.World as model;
 ghost use Rattle.replay_model.specs.Step as step;
 ghost use Rattle.replay_model.specs.Transcript.{lines};
-ghost use Rattle.replay_model.specs.Script.{InRange, IsAskable};
+ghost use Rattle.replay_model.specs.Forms.{InRange, IsAskable};
 ghost use Rattle.storm_model.specs.OpenCalls.{lost_in};
 ghost use Rattle.replay_world.specs.Stored.{AllBelow, RoseByAtMost, Keeps};
 ghost use Rattle.replay_world.specs.Kept.{HasNamed};
@@ -19,11 +19,12 @@ mod telling;
 use crate::delivery::hand_over;
 pub use asking::KEPT_PACKETS;
 use ff_io::Station;
-use replay_client::{Called, ClientMachine, Said};
-use replay_lines::{
-    Counts, Page, put_end, put_frame, put_idle, put_impossible, put_quiet, put_runs, put_start,
-    put_too_fast,
-};
+use replay_client::Said;
+use replay_client::machine::{Called, ClientMachine};
+use replay_lines::calls::{put_impossible, put_quiet, put_start, put_too_fast};
+use replay_lines::deliveries::put_frame;
+use replay_lines::work::put_idle;
+use replay_lines::{Counts, Page, put_end, put_runs};
 use replay_model::limits::{CLIENTS, FIRST_CLIENT, LARGEST_COUNT, LAST_CLIENT};
 use replay_model::{CallWord, Event, RunLine};
 use replay_packets::Sent;

@@ -3,12 +3,16 @@
 use binder::ExportFault;
 use call_rules::{Did, Unfit};
 use lane_checksum::digest_of;
-use replay_lines::{
-    Counts, Page, put_bind, put_bind_failure, put_bound, put_discard, put_end, put_export,
-    put_failure, put_frame, put_idle, put_impossible, put_no_export, put_packet, put_quiet,
-    put_ready, put_refusal, put_restarted, put_return, put_runs, put_second, put_skipped,
-    put_start, put_too_fast, put_unbound, put_waiting, put_withdrawn, put_work,
+use replay_lines::calls::{
+    put_bind, put_bind_failure, put_bound, put_failure, put_impossible, put_quiet, put_refusal,
+    put_return, put_start, put_too_fast, put_unbound, put_waiting,
 };
+use replay_lines::deliveries::{put_discard, put_frame, put_ready};
+use replay_lines::lives::{
+    put_export, put_no_export, put_restarted, put_second, put_skipped, put_withdrawn,
+};
+use replay_lines::work::{put_idle, put_work};
+use replay_lines::{Counts, Page, put_end, put_packet, put_runs};
 use replay_model::{Discard, RunLine};
 use rpc_header::{Activity, CallId, Export, Header, HeaderFault, Kind, number};
 use std::alloc::{AllocError, Global};

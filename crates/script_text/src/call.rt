@@ -1,6 +1,7 @@
 //! The calls that lines spell.
 ghost use Rattle.std.specs.Prelude.{◌∷◌, Bool, IfOk, codes};
-ghost use Rattle.replay_model.specs.Script.{InRange, words_of};
+ghost use Rattle.replay_model.specs.Forms.{InRange};
+ghost use Rattle.replay_model.specs.Script.{words_of};
 ghost use Rattle.script_text.specs.Reading.{ReadsWords};
 ghost use Rattle.script_text.specs.Words.{call_line};
 

@@ -2,7 +2,8 @@
 ghost use Rattle.std.specs.Prelude.{◌≡◌, ◌∷◌, ℕ, List, Bool, IfOk, IfSome, codes};
 ghost use Rattle.script_text.specs.Words.{CountsFrom, IsVerb, text_of};
 ghost use Rattle.script_text.specs.Reading.{ReadsWords, ReadsLine, SpellsOpenly};
-ghost use Rattle.replay_model.specs.Script.{InRange, is_skipped, words_of};
+ghost use Rattle.replay_model.specs.Forms.{InRange};
+ghost use Rattle.replay_model.specs.Script.{is_skipped, words_of};
 ghost use Rattle.std.specs.List.{list_all};
 ghost use Rattle.replay_model.specs.TextFault.{Above, is_byte_of_line};
 

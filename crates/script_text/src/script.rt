@@ -1,6 +1,7 @@
 //! Scripts, and how their texts are read.
 ghost use Rattle.std.specs.Prelude.{◌≡◌, ◌+◌, ◌-◌, ◌^◌, ◌<◌, ◌≤◌, ◌⊎◌, Some, None, length, IfOk, IfErr, OnOk, All, vec_len};
-ghost use Rattle.replay_model.specs.Script.{InRange, IsScript, is_end};
+ghost use Rattle.replay_model.specs.Forms.{InRange};
+ghost use Rattle.replay_model.specs.Script.{IsScript, is_end};
 ghost use Rattle.replay_model.specs.TextFault.{first_fault};
 ghost use Rattle.script_text.specs.Reading.{script_of, ReadsText, IsRefusal};
 

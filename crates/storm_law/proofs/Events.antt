@@ -1,21 +1,23 @@
 -- Each event accounts for its calls: those that are lost are the ones that were open at their client's restart.
-use Rattle.std.proofs.Common.{◌≡◌, ℕ, List, [], ◌∷◌, map, Option, Some, None, Bool, true, false, cond, refl, sym, subst, arith, ltb, eqb, eqb-true}
+use Rattle.std.proofs.Common.{◌≡◌, ℕ, List, [], ◌∷◌, map, Option, Some, None, Bool, true, false, cond, refl, sym, subst, arith, ltb, eqb, eqb-true, ◌+◌, leb}
 use Rattle.std.proofs.lemmas.Bool.{cond_both}
 use Rattle.binder.specs.declared.interface.InterfaceName.{InterfaceName}
 use Rattle.binder.specs.declared.row.ExportFault.{ExportFault}
 use Rattle.rpc_header.specs.declared.Export.{Export}
 use Rattle.binder.specs.Exports.{export_fault, look_up}
+use Rattle.call_rules.specs.Caller.{is_idle}
 use Rattle.replay_model.specs.declared.event.Event.{Event}
 use Rattle.replay_model.specs.declared.event.Event.TheVariants as event
 use Rattle.replay_model.specs.declared.limits.TheConstants.{FIRST_CLIENT, LAST_PROCESS, SERVER_MACHINE}
 use Rattle.replay_model.specs.Record.{Restarts}
-use Rattle.replay_model.specs.Step.{Outcome, impossible, with_client, outcome, second_event, exports_unless, export_event, withdraws_if, withdraw_event, boots_server, boots_client, restart_event}
+use Rattle.replay_model.specs.Step.{Outcome, impossible, with_client, outcome, second_event, exports_unless, export_event, withdraws_if, withdraw_event, boots_server, boots_client, restart_event, skips, last_number, skip_by, skip_event}
 use Rattle.replay_model.specs.World.{World, Client, numbered, packet_at, booted_line, booted_client, test_name}
+use Rattle.replay_model.specs.Process.{Line}
 use Rattle.std.specs.List.{range_with_len}
 use Rattle.storm_model.specs.OpenCalls.{open_of_lines, open_of, open_of_clients, lost_of, lost_in}
-use Rattle.storm_law.proofs.Places.{client_is_set}
+use Rattle.storm_law.proofs.Places.{client_is_set, line_is_set}
 use Rattle.storm_law.proofs.Counting.{Accounts}
-use Rattle.storm_law.proofs.Processes.{either, impossible_accounts, call_accounts, bind_accounts, skip_accounts, tick_accounts}
+use Rattle.storm_law.proofs.Processes.{either, impossible_accounts, call_accounts, bind_accounts, tick_accounts}
 use Rattle.storm_law.proofs.Deliveries.{deliver_accounts, damage_accounts, show_accounts, work_accounts}
 
 second_accounts : (w : World) (second : ℕ) → Accounts 0 0 w (second_event w second)
@@ -75,6 +77,24 @@ restart_accounts w m =
     cond_both (eqb m SERVER_MACHINE) _ _ (Accounts 0 (lost_of w (numbered FIRST_CLIENT w.clients m)) w)
     (λ server. subst (λ (lost : ℕ). Accounts 0 lost w (boots_server w)) (sym (no_client w m (eqb-true m SERVER_MACHINE server))) (boots_server_accounts w))
     (λ client. boots_client_accounts w m (numbered FIRST_CLIENT w.clients m) refl)
+
+-- Numbers that are passed over.
+
+skips_accounts : (w : World) (m p : ℕ) (c : Client) (l : Line) (next : ℕ) → numbered FIRST_CLIENT w.clients m ≡ Some c → numbered 1 c.lines p ≡ Some l → Accounts 0 0 w (skips w m p c l next)
+skips_accounts w m p c l next ec el =
+    either w (leb next last_number) _ _
+    (λ room. record { balanced = omega (arith, line_is_set w m p c c l (record l { next = next }) ec el refl) }) (λ full. impossible_accounts w)
+
+skip_by_accounts : (w : World) (m p : ℕ) (c : Client) (o : Option Line) (count : ℕ) → numbered FIRST_CLIENT w.clients m ≡ Some c → numbered 1 c.lines p ≡ o → Accounts 0 0 w (skip_by w m p c o count)
+unfolding skip_by
+skip_by_accounts w m p c None count ec el = impossible_accounts w
+skip_by_accounts w m p c (Some l) count ec el =
+    either w (is_idle l.caller.state) _ _ (λ idle. skips_accounts w m p c l (l.next + count) ec el) (λ busy. impossible_accounts w)
+
+skip_accounts : (w : World) (m p : ℕ) (o : Option Client) (count : ℕ) → numbered FIRST_CLIENT w.clients m ≡ o → Accounts 0 0 w (skip_event w m p o count)
+unfolding skip_event
+skip_accounts w m p None count e = impossible_accounts w
+skip_accounts w m p (Some c) count e = skip_by_accounts w m p c (numbered 1 c.lines p) count e refl
 
 -- each event accounts for its calls
 pub event_accounts : (w : World) (e : Event) → Accounts 0 (lost_in w e) w (outcome w e)

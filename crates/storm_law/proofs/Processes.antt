@@ -1,5 +1,5 @@
--- The steps of processes account for their calls: starts, binds, numbers that are passed over, and ticks.
-use Rattle.std.proofs.Common.{◌≡◌, ℕ, zero, suc, ◌+◌, List, [], ◌∷◌, Option, Some, None, Bool, true, false, cond, refl, arith, leb}
+-- The steps of processes account for their calls: starts, binds and ticks.
+use Rattle.std.proofs.Common.{◌≡◌, ℕ, zero, suc, List, [], ◌∷◌, Option, Some, None, Bool, true, false, cond, refl, arith, leb}
 use Rattle.std.proofs.lemmas.Bool.{cond_both}
 use Rattle.call_rules.specs.Packet.{Call}
 use Rattle.call_rules.specs.Caller.{is_idle, current_call}
@@ -9,8 +9,8 @@ use Rattle.replay_model.specs.Process.{Line, LineStep, Said, SaysNothing, Sends,
 use Rattle.replay_model.specs.Record.{Act}
 use Rattle.replay_model.specs.Service.{procedure_of, arguments_of}
 use Rattle.binder.specs.Interfaces.{bind_data}
-use Rattle.replay_model.specs.Step.{Outcome, settled, impossible, nothing, with_client, with_line, tells, does, starts, too_fast, call_by, call_event, starts_bind, bind_by, bind_event, skips, skip_by, skip_event, tick, ticks, ticks_client, ticks_line, quiet_if_none, tick_event}
-use Rattle.replay_model.specs.World.{World, Client, numbered, number_limit, last_number, test_name}
+use Rattle.replay_model.specs.Step.{Outcome, settled, impossible, nothing, with_client, with_line, tells, does, starts, too_fast, call_by, call_event, starts_bind, bind_by, bind_event, tick, ticks, ticks_client, ticks_line, quiet_if_none, tick_event}
+use Rattle.replay_model.specs.World.{World, Client, numbered, number_limit, test_name}
 use Rattle.storm_model.specs.OpenCalls.{open_calls}
 use Rattle.storm_law.proofs.Places.{client_is_set, line_is_set}
 use Rattle.storm_law.proofs.Counting.{Accounts, started_by_all, ended_by_all, started_by_both, ended_by_both}
@@ -75,7 +75,7 @@ unfolding call_event
 call_accounts w m p None asked e = impossible_accounts w
 call_accounts w m p (Some c) asked e = call_by_accounts w m p c (numbered 1 c.lines p) asked e refl
 
--- Binds, and numbers that are passed over.
+-- Binds.
 
 starts_bind_accounts : (w : World) (m p : ℕ) (c : Client) (l : Line) (name : List ℕ) → numbered FIRST_CLIENT w.clients m ≡ Some c → numbered 1 c.lines p ≡ Some l → is_idle l.caller.state ≡ true → Accounts 0 0 w (starts_bind w m p c l name)
 starts_bind_accounts w m p c l name ec el idle =
@@ -95,22 +95,6 @@ pub bind_accounts : (w : World) (m p : ℕ) (o : Option Client) (name : List ℕ
 unfolding bind_event
 bind_accounts w m p None name e = impossible_accounts w
 bind_accounts w m p (Some c) name e = bind_by_accounts w m p c (numbered 1 c.lines p) name e refl
-
-skips_accounts : (w : World) (m p : ℕ) (c : Client) (l : Line) (next : ℕ) → numbered FIRST_CLIENT w.clients m ≡ Some c → numbered 1 c.lines p ≡ Some l → Accounts 0 0 w (skips w m p c l next)
-skips_accounts w m p c l next ec el =
-    either w (leb next last_number) _ _
-    (λ room. record { balanced = omega (arith, line_is_set w m p c c l (record l { next = next }) ec el refl) }) (λ full. impossible_accounts w)
-
-skip_by_accounts : (w : World) (m p : ℕ) (c : Client) (o : Option Line) (count : ℕ) → numbered FIRST_CLIENT w.clients m ≡ Some c → numbered 1 c.lines p ≡ o → Accounts 0 0 w (skip_by w m p c o count)
-unfolding skip_by
-skip_by_accounts w m p c None count ec el = impossible_accounts w
-skip_by_accounts w m p c (Some l) count ec el =
-    either w (is_idle l.caller.state) _ _ (λ idle. skips_accounts w m p c l (l.next + count) ec el) (λ busy. impossible_accounts w)
-
-pub skip_accounts : (w : World) (m p : ℕ) (o : Option Client) (count : ℕ) → numbered FIRST_CLIENT w.clients m ≡ o → Accounts 0 0 w (skip_event w m p o count)
-unfolding skip_event
-skip_accounts w m p None count e = impossible_accounts w
-skip_accounts w m p (Some c) count e = skip_by_accounts w m p c (numbered 1 c.lines p) count e refl
 
 -- Ticks.
 

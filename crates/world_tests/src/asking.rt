@@ -1,7 +1,7 @@
 //! What a storm asks of its world.
 
 ghost use Rattle.std.specs.Prelude.{◌≤◌, IfOk, OnOk};
-ghost use Rattle.replay_model.specs.Script.{InRange};
+ghost use Rattle.replay_model.specs.Forms.{InRange};
 ghost use Rattle.replay_world.specs.Stored.{AllBelow, RoseByAtMost};
 
 use binder::read_name;

@@ -11,10 +11,11 @@ ghost use Rattle.replay_world.specs.Played.{Plays};
 use super::World;
 use binder::Name;
 use ff_io::Station;
-use replay_client::Called;
-use replay_lines::{
-    Page, put_bind, put_export, put_impossible, put_no_export, put_restarted, put_second,
-    put_skipped, put_too_fast, put_withdrawn,
+use replay_client::machine::Called;
+use replay_lines::Page;
+use replay_lines::calls::{put_bind, put_impossible, put_too_fast};
+use replay_lines::lives::{
+    put_export, put_no_export, put_restarted, put_second, put_skipped, put_withdrawn,
 };
 use replay_model::limits::{FIRST_CLIENT, LAST_CLIENT, LAST_PROCESS, SERVER_MACHINE};
 use std::alloc::{AllocError, Global};

@@ -18,10 +18,12 @@ ghost use Rattle.replay_world.specs.Played.{Plays, fails};
 use super::World;
 use crate::delivery::Taken;
 use replay_client::{Cause, Said, Told};
-use replay_lines::{
-    Page, put_bind_failure, put_bound, put_discard, put_failure, put_packet, put_ready,
-    put_refusal, put_return, put_unbound, put_waiting, put_work,
+use replay_lines::calls::{
+    put_bind_failure, put_bound, put_failure, put_refusal, put_return, put_unbound, put_waiting,
 };
+use replay_lines::deliveries::{put_discard, put_ready};
+use replay_lines::work::put_work;
+use replay_lines::{Page, put_packet};
 use replay_packets::Outgoing;
 use replay_server::{Adds, Stepped};
 use rpc_header::CallId;

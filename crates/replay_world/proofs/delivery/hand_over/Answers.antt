@@ -1,14 +1,21 @@
 use Rattle.std.proofs.Common.{◌≡◌, ℕ, sym, ap, subst, ◌∙◌}
 use Rattle.std.proofs.lemmas.Result.{IfOk-weaker}
-use Rattle.std.proofs.lemmas.Bool.{eqb-true, eqb-false}
+use Rattle.std.proofs.lemmas.Bool.{eqb-true, eqb-false, cond-true, cond-false, eq-eqb, ne_eqb}
 use Rattle.call_rules.specs.Packet.{Packet}
 use Rattle.replay_model.specs.declared.limits.TheConstants.{SERVER_MACHINE, FIRST_CLIENT}
 use Rattle.replay_model.specs.World.{World, numbered}
-use Rattle.replay_model.specs.Step.{receives, takes_arrival, server_takes, client_takes}
+use Rattle.replay_model.specs.Step.{receives, takes_arrival, server_takes, client_takes, machine_takes}
 use Rattle.replay_world.specs.Delivery.{TakenAs}
 use Rattle.replay_packets.specs.Packet.{packet_of}
-use Rattle.replay_world.proofs.WorldSteps.{machine_takes-server, machine_takes-client}
 use Rattle.replay_world.proofs.delivery.hand_over.Goals as goal
+
+machine_takes-server : (w : World) (k : ℕ) (p : Packet) → p.to ≡ SERVER_MACHINE → machine_takes w k p ≡ server_takes w k p
+unfolding machine_takes
+machine_takes-server w k p to = cond-true _ _ _ (eq-eqb p.to SERVER_MACHINE to)
+
+machine_takes-client : (w : World) (k : ℕ) (p : Packet) → (p.to ≡ SERVER_MACHINE → ⊥) → machine_takes w k p ≡ client_takes w k p (numbered FIRST_CLIENT w.clients p.to)
+unfolding machine_takes
+machine_takes-client w k p to = cond-false _ _ _ (ne_eqb p.to SERVER_MACHINE to)
 
 pub returns-then-eq : goal.returns-then-eq
 returns-then-eq c =

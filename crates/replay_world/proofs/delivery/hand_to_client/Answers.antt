@@ -1,17 +1,34 @@
-use Rattle.std.proofs.Common.{◌≡◌, ℕ, ◌-◌, ◌≤◌, ◌<◌, List, Some, length, set, ap, sym, subst, ◌∙◌, arith}
+use Rattle.std.proofs.Common.{◌≡◌, ℕ, ◌-◌, ◌≤◌, ◌<◌, List, Some, length, set, ap, sym, subst, ◌∙◌, arith, Option, None, refl}
 use Rattle.call_rules.specs.Packet.{Packet}
-use Rattle.replay_model.specs.World.{Client}
+use Rattle.replay_model.specs.World.{Client, World}
 use Rattle.replay_model.specs.Step.{Outcome, client_takes, discarded, with_client}
+use Rattle.replay_model.specs.declared.discard.Discard.TheVariants as why
 use Rattle.replay_packets.specs.Packet.{packet_of}
 use Rattle.replay_client.specs.declared.line.Took.{Took}
 use Rattle.replay_client.specs.Client.{TookAs, KeepsDropped, HearsAs}
 use Rattle.replay_world.specs.Stands.{IsClient}
-use Rattle.replay_world.proofs.Machines.{heard_in}
 use Rattle.replay_world.proofs.Numbered.{numbered-low, numbered-none}
 use Rattle.replay_world.proofs.Standing.{client_of, clients_with, clients_same}
-use Rattle.replay_world.proofs.WorldSteps.{client_takes-nobody}
 use Rattle.replay_world.proofs.Zips.{zip-length}
 use Rattle.replay_world.proofs.delivery.hand_to_client.Goals as goal
+
+client_takes-nobody : (w : World) (k : ℕ) (p : Packet) (o : Option Client) → o ≡ None → client_takes w k p o ≡ discarded w why.NoCell
+unfolding client_takes
+client_takes-nobody w k p o h = ap (client_takes w k p) h
+
+-- a packet has come to a client
+record Heard (w : World) (k : ℕ) (p : Packet) (c now : Client) (took : Took) : Type 0 where
+  pub client : Client
+  pub is_client : IsClient now client
+  pub outcome : TookAs w k p client took (client_takes w k p (Some c))
+  pub dropped : KeepsDropped took c client
+
+heard_in : (w : World) (k : ℕ) (p : Packet) (c old now : Client) (took : Took) → IsClient old c
+    → ((v : World) (n : ℕ) → TookAs v n p now took (client_takes v n p (Some old))) → KeepsDropped took old now → Heard w k p c now took
+heard_in w k p c old now took is told dropped =
+    let P : Client → Type 0 = λ x. TookAs w k p now took (client_takes w k p (Some x)) in
+    let Q : Client → Type 0 = λ x. KeepsDropped took x now in
+    record { client = now; is_client = refl; outcome = subst P is (told w k); dropped = subst Q is dropped }
 
 pub returns-then-machine-lt-FIRST_CLIENT : goal.returns-then-machine-lt-FIRST_CLIENT
 returns-then-machine-lt-FIRST_CLIENT c w k are =

@@ -2,7 +2,7 @@
 use Rattle.std.proofs.Common.{◌≡◌, ℕ, ◌<◌, ◌≤◌, ◌+◌, length, vec_len, Bor, List, ◌∷◌, Option, Ok, IfSome, inr, ap, arith, subst, sym, ◌∙◌}
 use Rattle.std.specs.List.{All}
 use Rattle.std.proofs.lemmas.List.Elements.{All-nil, All-push}
-use Rattle.replay_model.specs.Script.{InRange}
+use Rattle.replay_model.specs.Forms.{InRange}
 use Rattle.replay_model.specs.declared.event.Event.{Event}
 use Rattle.script_text.specs.Lines.{lines_of_rest}
 use Rattle.script_text.specs.Reading.{ReadsLine}

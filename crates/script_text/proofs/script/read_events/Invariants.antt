@@ -1,6 +1,6 @@
 use Rattle.std.proofs.Common.{◌≡◌, ◌≤◌, ◌+◌, true, length, vec_len}
 use Rattle.std.specs.List.{All, list_all}
-use Rattle.replay_model.specs.Script.{InRange}
+use Rattle.replay_model.specs.Forms.{InRange}
 use Rattle.script_text.specs.Lines.{lines_of_rest}
 use Rattle.script_text.proofs.LineBytes.{fine}
 use Rattle.script_text.proofs.Walking.{ReadSoFar, bytes_left, parts_left}

@@ -1,12 +1,55 @@
-use Rattle.std.proofs.Common.{ℕ, ◌-◌, ◌≤◌, List, [], ◌∷◌, length, get_or, set, ap, sym, ◌∙◌, arith}
-use Rattle.replay_model.specs.Record.{TooFast}
-use Rattle.replay_model.specs.Process.{Line}
-use Rattle.replay_model.specs.World.{World, Client}
-use Rattle.replay_model.specs.Step.{Outcome, with_client}
+use Rattle.std.proofs.Common.{ℕ, ◌-◌, ◌≤◌, List, [], ◌∷◌, length, get_or, set, ap, sym, ◌∙◌, arith, ◌≡◌, ◌<◌, Option, Some, None, true, false, refl}
+use Rattle.std.proofs.lemmas.Bool.{cond-true, cond-false, le-leb, lt-leb}
+use Rattle.binder.specs.Interfaces.{bind_data}
+use Rattle.call_rules.specs.Packet.{Call}
+use Rattle.call_rules.specs.Caller.{is_idle, current_call}
+use Rattle.replay_model.specs.Record.{TooFast, Binds}
+use Rattle.replay_model.specs.Process.{Line, LineStep, binds}
+use Rattle.replay_model.specs.World.{World, Client, numbered, number_limit, test_name}
+use Rattle.replay_model.specs.Step.{Outcome, with_client, impossible, does, starts_bind, too_fast, next_call, bind_by, behind, with_line}
 use Rattle.replay_client.specs.contracts.machine.ClientMachine.{the_view}
+use Rattle.replay_client.specs.declared.told.Told.{Told}
+use Rattle.replay_client.specs.Told.{StepsAs}
+use Rattle.replay_client.specs.Client.{BeginsAs}
+use Rattle.replay_client.proofs.Steps.{told_outcome}
 use Rattle.replay_client.proofs.Numbered.{numbered-none, numbered-some, set-same}
-use Rattle.replay_client.proofs.Outcomes.{bind_by-none, bind_by-busy, bind_by-fast, bind_by-started}
 use Rattle.replay_client.proofs.machine.ClientMachine.bind.Goals as goal
+
+bind_by-none : (w : World) (machine process : ℕ) (c : Client) (name : List ℕ) → numbered 1 c.lines process ≡ None → bind_by w machine process c (numbered 1 c.lines process) name ≡ impossible w
+unfolding bind_by
+bind_by-none w machine process c name h = ap (λ (o : Option Line). bind_by w machine process c o name) h
+
+bind_by-busy : (w : World) (machine process : ℕ) (c : Client) (l : Line) (name : List ℕ) → numbered 1 c.lines process ≡ Some l → is_idle l.caller.state ≡ false → bind_by w machine process c (numbered 1 c.lines process) name ≡ impossible w
+unfolding bind_by
+bind_by-busy w machine process c l name h idle = ap (λ (o : Option Line). bind_by w machine process c o name) h ∙ cond-false _ _ _ idle
+
+bind_by-fast : (w : World) (machine process : ℕ) (c : Client) (l : Line) (name : List ℕ) → numbered 1 c.lines process ≡ Some l → is_idle l.caller.state ≡ true → number_limit w.second ≤ l.next → bind_by w machine process c (numbered 1 c.lines process) name ≡ too_fast w machine c l
+unfolding bind_by
+bind_by-fast w machine process c l name h idle late =
+    ap (λ (o : Option Line). bind_by w machine process c o name) h ∙ (cond-true _ _ _ idle ∙ cond-true _ _ _ (le-leb _ _ late))
+
+bind_by-starts : (w : World) (machine process : ℕ) (c : Client) (l : Line) (name : List ℕ) → numbered 1 c.lines process ≡ Some l → is_idle l.caller.state ≡ true → l.next < number_limit w.second → bind_by w machine process c (numbered 1 c.lines process) name ≡ starts_bind w machine process c l name
+unfolding bind_by
+bind_by-starts w machine process c l name h idle soon =
+    ap (λ (o : Option Line). bind_by w machine process c o name) h ∙ (cond-true _ _ _ idle ∙ cond-false _ _ _ (lt-leb _ _ soon))
+
+-- a bind takes the number of the call that was due next
+begun_bind : (me : ℕ) (l : Line) (bytes : List ℕ) → current_call (binds me l bytes).line.caller ≡ next_call l
+unfolding binds
+begun_bind me l bytes = refl
+
+bind_by-started : (w : World) (machine process : ℕ) (c : Client) (l new : Line) (name : List ℕ) (after : Client) (told : Told) (bytes : List ℕ) → numbered 1 c.lines process ≡ Some l → is_idle l.caller.state ≡ true → l.next < number_limit w.second → after ≡ with_line (record c { read = w.second }) process new → bytes ≡ bind_data (test_name name) → StepsAs new told (binds machine l bytes) → BeginsAs (with_client w machine after) told (bind_by w machine process c (numbered 1 c.lines process) name)
+bind_by-started w machine process c l new name after told bytes h idle soon client eb steps =
+    let s : LineStep = binds machine l (bind_data (test_name name)) in
+    let g : StepsAs new told s = rw eb at steps in
+    let first : Outcome = does w machine process (record c { read = w.second }) s in
+    record {
+      first = first;
+      tells = rw client (told_outcome w machine process (record c { read = w.second }) new told s g);
+      outcome =
+          bind_by-starts w machine process c l name h idle soon
+          ∙ ap (λ (x : Call). behind (Binds x) first) (sym (g.call ∙ begun_bind machine l (bind_data (test_name name))));
+    }
 
 pub returns-then-place-len-clause-outcome : goal.returns-then-place-len-clause-outcome
 returns-then-place-len-clause-outcome c w =

@@ -1,10 +1,39 @@
-use Rattle.std.proofs.Common.{◌≡◌, ℕ, ◌-◌, ◌≤◌, length, None, get_or, set, ap, sym, ◌∙◌, arith, subst}
+use Rattle.std.proofs.Common.{◌≡◌, ℕ, ◌-◌, ◌≤◌, length, None, get_or, set, ap, sym, ◌∙◌, arith, subst, ◌+◌, ◌<◌, [], ◌∷◌, Option, Some, true, false}
+use Rattle.std.proofs.lemmas.Bool.{cond-true, cond-false, le-leb, lt-leb}
+use Rattle.rpc_header.specs.declared.Activity.{Activity}
+use Rattle.call_rules.specs.Caller.{is_idle}
 use Rattle.replay_model.specs.Process.{Line}
-use Rattle.replay_model.specs.World.{World, Client}
+use Rattle.replay_model.specs.World.{World, Client, numbered}
+use Rattle.replay_model.specs.Record.{Skips}
+use Rattle.replay_model.specs.Step.{impossible, skips, last_number, skip_by, with_client, with_line}
 use Rattle.replay_client.specs.contracts.machine.ClientMachine.{the_view}
 use Rattle.replay_client.proofs.Numbered.{numbered-none, numbered-some}
-use Rattle.replay_client.proofs.Outcomes.{skip_by-none, skip_by-busy, skip_by-past, skip_by-skips}
 use Rattle.replay_client.proofs.machine.ClientMachine.skip.Goals as goal
+
+skip_by-none : (w : World) (machine process : ℕ) (c : Client) (by : ℕ) → numbered 1 c.lines process ≡ None → skip_by w machine process c (numbered 1 c.lines process) by ≡ impossible w
+unfolding skip_by
+skip_by-none w machine process c by h = ap (λ (o : Option Line). skip_by w machine process c o by) h
+
+skip_by-busy : (w : World) (machine process : ℕ) (c : Client) (l : Line) (by : ℕ) → numbered 1 c.lines process ≡ Some l → is_idle l.caller.state ≡ false → skip_by w machine process c (numbered 1 c.lines process) by ≡ impossible w
+unfolding skip_by
+skip_by-busy w machine process c l by h idle = ap (λ (o : Option Line). skip_by w machine process c o by) h ∙ cond-false _ _ _ idle
+
+skip_by-past : (w : World) (machine process : ℕ) (c : Client) (l : Line) (by : ℕ) → numbered 1 c.lines process ≡ Some l → is_idle l.caller.state ≡ true → last_number < l.next + by → skip_by w machine process c (numbered 1 c.lines process) by ≡ impossible w
+unfolding skip_by
+skip_by-past w machine process c l by h idle past =
+    ap (λ (o : Option Line). skip_by w machine process c o by) h ∙ (cond-true _ _ _ idle ∙ cond-false _ _ _ (lt-leb _ _ past))
+
+skip_by-skips : (w : World) (machine process : ℕ) (c after : Client) (l new : Line) (by next : ℕ) (activity : Activity) → numbered 1 c.lines process ≡ Some l → is_idle l.caller.state ≡ true → next ≡ l.next + by → next ≤ last_number → new ≡ record l { next = next } → activity ≡ l.caller.activity → after ≡ with_line c process new → skip_by w machine process c (numbered 1 c.lines process) by
+    ≡ record { world = with_client w machine after; acts = Skips activity next ∷ [] }
+unfolding skip_by
+skip_by-skips w machine process c after l new by next activity h idle en within is ea client =
+    ap (λ (o : Option Line). skip_by w machine process c o by) h
+    ∙ (cond-true _ _ _ idle
+    ∙ (ap (skips w machine process c l) (sym en)
+    ∙ (cond-true _ _ _ (le-leb _ _ within)
+    ∙ (ap (λ (x : Client). record { world = with_client w machine x; acts = Skips l.caller.activity next ∷ [] })
+    (sym (client ∙ ap (λ (x : Line). with_line c process x) is))
+    ∙ ap (λ (x : Activity). record { world = with_client w machine after; acts = Skips x next ∷ [] }) (sym ea)))))
 
 pub returns-then-place-len-clause-outcome : goal.returns-then-place-len-clause-outcome
 returns-then-place-len-clause-outcome c w machine =

@@ -1,14 +1,29 @@
-use Rattle.std.proofs.Common.{◌≡◌, ℕ, Some, ◌+◌, ◌-◌, ◌≤◌, length, get_or, set, ap, ◌∙◌, arith}
+use Rattle.std.proofs.Common.{◌≡◌, ℕ, Some, ◌+◌, ◌-◌, ◌≤◌, length, get_or, set, ap, ◌∙◌, arith, None, sym, subst}
 use Rattle.std.proofs.lemmas.Result.{IfOk-weaker}
 use Rattle.call_rules.specs.Packet.{Packet}
 use Rattle.replay_packets.specs.Packet.{packet_of}
-use Rattle.replay_model.specs.World.{World, Client}
-use Rattle.replay_model.specs.Step.{client_takes, line_takes, with_line}
+use Rattle.replay_model.specs.World.{World, Client, numbered}
+use Rattle.replay_model.specs.Step.{client_takes, line_takes, with_line, Outcome, discarded}
+use Rattle.replay_model.specs.declared.discard.Discard.TheVariants as why
+use Rattle.replay_model.specs.Process.{Line}
 use Rattle.replay_client.specs.contracts.machine.ClientMachine.{the_view}
 use Rattle.replay_client.specs.Client.{TookAs}
+use Rattle.replay_client.specs.declared.line.Took.{Took}
 use Rattle.replay_client.proofs.Numbered.{numbered-none, numbered-some}
-use Rattle.replay_client.proofs.Outcomes.{client_takes-none, taken}
 use Rattle.replay_client.proofs.machine.ClientMachine.take.Goals as goal
+
+client_takes-none : (w : World) (k : ℕ) (p : Packet) (c : Client) → numbered 1 c.lines (p.header.hint + 1) ≡ None → client_takes w k p (Some c) ≡ discarded w why.NoCell
+unfolding client_takes line_takes
+client_takes-none w k p c h = ap (line_takes w k p c) h
+
+client_takes-some : (w : World) (k : ℕ) (p : Packet) (c : Client) (l : Line) → numbered 1 c.lines (p.header.hint + 1) ≡ Some l → client_takes w k p (Some c) ≡ line_takes w k p c (Some l)
+unfolding client_takes
+client_takes-some w k p c l h = ap (line_takes w k p c) h
+
+taken : (w : World) (k : ℕ) (p : Packet) (c after : Client) (l new : Line) (took : Took) → numbered 1 c.lines (p.header.hint + 1) ≡ Some l → after ≡ with_line c (p.header.hint + 1) new → TookAs w k p (with_line c (p.header.hint + 1) new) took (line_takes w k p c (Some l)) → TookAs w k p after took (client_takes w k p (Some c))
+taken w k p c after l new took h client t =
+    subst (λ (o : Outcome). TookAs w k p after took o) (sym (client_takes-some w k p c l h))
+    (subst (λ (x : Client). TookAs w k p x took (line_takes w k p c (Some l))) (sym client) t)
 
 pub returns-then-place-len-clause-outcome : goal.returns-then-place-len-clause-outcome
 returns-then-place-len-clause-outcome c w k =

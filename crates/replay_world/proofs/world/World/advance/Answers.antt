@@ -1,8 +1,8 @@
 use Rattle.std.proofs.Common.{◌≡◌, ◌<◌, ◌≤◌, ℕ, ap, subst, ◌∙◌, lit≤, arith}
 use Rattle.std.proofs.lemmas.Result.{on_ok_weaker}
-use Rattle.replay_model.specs.Record.{ListsRuns, Ends, counts_of}
-use Rattle.replay_model.specs.Lines.{end_line}
-use Rattle.replay_model.specs.Script.{InRange}
+use Rattle.replay_model.specs.Record.{Counts, ListsRuns, Ends, counts_of}
+use Rattle.replay_model.specs.Lines.{lines_of_act}
+use Rattle.replay_model.specs.Forms.{InRange}
 use Rattle.replay_model.specs.declared.event.Event.{Event}
 use Rattle.replay_lines.specs.Page.{Page, written}
 use Rattle.replay_world.specs.Kept.{HasNamed}
@@ -170,7 +170,7 @@ returns-in-End-clause-played c w stands named =
     let after : Page = c.put_end.new.out in
     let self : Stored = c.args.self.now in
     rw c.in-End.is (on_ok_weaker c.put_end.result (λ e. plays_one before after self w w.records (Ends (counts_of w.records))
-    (e ∙ ap (written before) (ap end_line (ap (λ (s : Stored). s.counts) c.self-in-End.view_is ∙ stands.counts))) stands) c.put_end.ensures)
+    (e ∙ ap (written before) (ap (λ (x : Counts). lines_of_act (Ends x)) (ap (λ (s : Stored). s.counts) c.self-in-End.view_is ∙ stands.counts))) stands) c.put_end.ensures)
 
 pub returns-in-End-clause-lost : goal.returns-in-End-clause-lost
 returns-in-End-clause-lost c w stands = rw c.in-End.is (on_ok_always c.put_end.result (omega arith))

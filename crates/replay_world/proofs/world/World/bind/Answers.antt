@@ -1,10 +1,10 @@
-use Rattle.std.proofs.Common.{◌≡◌, ℕ, ◌-◌, ◌≤◌, List, ◌++◌, length, set, ap, sym, subst, refl, ◌∙◌, arith}
+use Rattle.std.proofs.Common.{◌≡◌, ℕ, ◌-◌, ◌≤◌, List, ◌++◌, length, set, ap, sym, subst, refl, ◌∙◌, arith, Option, Some, None}
 use Rattle.std.proofs.lemmas.Result.{on_ok_weaker}
 use Rattle.call_rules.specs.Packet.{Call, call_of}
 use Rattle.replay_model.specs.Record.{Records, Impossible, TooFast, Binds, recorded}
 use Rattle.replay_model.specs.Lines.{lines_of_act}
 use Rattle.replay_model.specs.World.{World, Client, numbered}
-use Rattle.replay_model.specs.Step.{Outcome, bind_by, impossible, behind, with_client}
+use Rattle.replay_model.specs.Step.{Outcome, bind_by, impossible, behind, with_client, bind_event}
 use Rattle.replay_client.specs.declared.machine.Called.{Called}
 use Rattle.replay_client.specs.declared.machine.Called.TheVariants as called
 use Rattle.replay_client.specs.Client.{BindsAs, KeepsImpossible, BeginsAs}
@@ -12,12 +12,27 @@ use Rattle.replay_lines.specs.Page.{Page, written}
 use Rattle.replay_world.specs.Stored.{Stored}
 use Rattle.replay_world.specs.Stands.{Stands, IsClient}
 use Rattle.replay_world.specs.contracts.world.World.{the_view}
-use Rattle.replay_world.proofs.Machines.{bound_in}
 use Rattle.replay_world.proofs.Numbered.{numbered-none}
-use Rattle.replay_world.proofs.WorldSteps.{bind_event-none, bind_event-some}
 use Rattle.replay_world.proofs.Standing.{plays_one, plays_behind, plays_as, stands-clients, stands-beside, client_of, clients_with, clients_same}
 use Rattle.replay_world.proofs.Zips.{zip-length}
 use Rattle.replay_world.proofs.world.World.bind.Goals as goal
+
+bind_event-none : (w : World) (m p : ℕ) (o : Option Client) (name : List ℕ) → o ≡ None → bind_event w m p o name ≡ impossible w
+unfolding bind_event
+bind_event-none w m p o name h = ap (λ (x : Option Client). bind_event w m p x name) h
+
+bind_event-some : (w : World) (m p : ℕ) (o : Option Client) (c : Client) (name : List ℕ) → o ≡ Some c → bind_event w m p o name ≡ bind_by w m p c (numbered 1 c.lines p) name
+unfolding bind_event
+bind_event-some w m p o c name h = ap (λ (x : Option Client). bind_event w m p x name) h
+
+-- a client has been asked for a bind
+bound_in : (w : World) (second machine process : ℕ) (c old now : Client) (name : List ℕ) (called : Called) → second ≡ w.second → IsClient old c
+    → ((v : World) → BindsAs (record v { second = second }) machine now called (bind_by (record v { second = second }) machine process old (numbered 1 old.lines process) name))
+    → BindsAs w machine now called (bind_by w machine process c (numbered 1 c.lines process) name)
+bound_in w second machine process c old now name called at is told =
+    let T : ℕ → Type 0 = λ n. BindsAs (record w { second = n }) machine now called (bind_by (record w { second = n }) machine process old (numbered 1 old.lines process) name) in
+    let P : Client → Type 0 = λ x. BindsAs w machine now called (bind_by w machine process x (numbered 1 x.lines process) name) in
+    subst P is (subst T at (told w))
 
 pub returns-then-place-len-clause-played : goal.returns-then-place-len-clause-played
 returns-then-place-len-clause-played c w h =

@@ -1,10 +1,10 @@
-use Rattle.std.proofs.Common.{◌≡◌, ℕ, ◌-◌, ◌≤◌, List, ◌++◌, length, set, ap, sym, subst, refl, ◌∙◌, arith}
+use Rattle.std.proofs.Common.{◌≡◌, ℕ, ◌-◌, ◌≤◌, List, ◌++◌, length, set, ap, sym, subst, refl, ◌∙◌, arith, Option, Some, None}
 use Rattle.std.proofs.lemmas.Result.{on_ok_weaker}
 use Rattle.replay_model.specs.declared.event.CallWord.{CallWord}
 use Rattle.replay_model.specs.Record.{Records, Impossible, TooFast, Starts, recorded}
 use Rattle.replay_model.specs.Lines.{lines_of_act}
 use Rattle.replay_model.specs.World.{World, Client, numbered}
-use Rattle.replay_model.specs.Step.{Outcome, call_by, impossible, behind, with_client}
+use Rattle.replay_model.specs.Step.{Outcome, call_by, impossible, behind, with_client, call_event}
 use Rattle.replay_client.specs.declared.machine.Called.{Called}
 use Rattle.replay_client.specs.declared.machine.Called.TheVariants as called
 use Rattle.replay_client.specs.Client.{CallsAs, KeepsImpossible, StartsAs}
@@ -12,12 +12,34 @@ use Rattle.replay_lines.specs.Page.{Page, written}
 use Rattle.replay_world.specs.Stored.{Stored}
 use Rattle.replay_world.specs.Stands.{Stands, IsClient}
 use Rattle.replay_world.specs.contracts.world.World.{the_view}
-use Rattle.replay_world.proofs.Machines.{asked_in}
 use Rattle.replay_world.proofs.Numbered.{numbered-none}
-use Rattle.replay_world.proofs.WorldSteps.{call_event-none, call_event-some}
 use Rattle.replay_world.proofs.Standing.{plays_one, plays_behind, plays_as, stands-clients, stands-start, client_of, clients_with, clients_same}
 use Rattle.replay_world.proofs.Zips.{zip-length}
 use Rattle.replay_world.proofs.world.World.call.Goals as goal
+
+call_event-none : (w : World) (m p : ℕ) (o : Option Client) (asked : CallWord) → o ≡ None → call_event w m p o asked ≡ impossible w
+unfolding call_event
+call_event-none w m p o asked h = ap (λ (x : Option Client). call_event w m p x asked) h
+
+call_event-some : (w : World) (m p : ℕ) (o : Option Client) (c : Client) (asked : CallWord) → o ≡ Some c → call_event w m p o asked ≡ call_by w m p c (numbered 1 c.lines p) asked
+unfolding call_event
+call_event-some w m p o c asked h = ap (λ (x : Option Client). call_event w m p x asked) h
+
+-- a client has been asked for a call, and the machine stands for this one
+record Asked (w : World) (machine process : ℕ) (c now : Client) (asked : CallWord) (called : Called) : Type 0 where
+  pub client : Client
+  pub is_client : IsClient now client
+  pub outcome : CallsAs w machine client called (call_by w machine process c (numbered 1 c.lines process) asked)
+  pub impossible : KeepsImpossible called c client
+
+asked_in : (w : World) (second machine process : ℕ) (c old now : Client) (asked : CallWord) (called : Called) → second ≡ w.second → IsClient old c
+    → ((v : World) → CallsAs (record v { second = second }) machine now called (call_by (record v { second = second }) machine process old (numbered 1 old.lines process) asked))
+    → KeepsImpossible called old now → Asked w machine process c now asked called
+asked_in w second machine process c old now asked called at is told impossible =
+    let T : ℕ → Type 0 = λ n. CallsAs (record w { second = n }) machine now called (call_by (record w { second = n }) machine process old (numbered 1 old.lines process) asked) in
+    let P : Client → Type 0 = λ x. CallsAs w machine now called (call_by w machine process x (numbered 1 x.lines process) asked) in
+    let Q : Client → Type 0 = λ x. KeepsImpossible called x now in
+    record { client = now; is_client = refl; outcome = subst P is (subst T at (told w)); impossible = subst Q is impossible }
 
 pub returns-then-place-len-clause-played : goal.returns-then-place-len-clause-played
 returns-then-place-len-clause-played c w h =

@@ -1,20 +1,33 @@
-use Rattle.std.proofs.Common.{◌≡◌, ℕ, ◌-◌, ◌*◌, ◌≤◌, ◌<◌, List, length, ap, sym, subst, ◌∙◌, arith}
+use Rattle.std.proofs.Common.{◌≡◌, ℕ, ◌-◌, ◌*◌, ◌≤◌, ◌<◌, List, length, ap, sym, subst, ◌∙◌, arith, Option, Some, None}
 use Rattle.std.specs.Prelude.{MatchOption}
 use Rattle.std.proofs.lemmas.Result.{on_ok_weaker}
+use Rattle.std.proofs.lemmas.Bool.{cond-true, cond-false, le-ltb, lt-ltb}
 use Rattle.udp_frames.specs.Damage.{flipped}
+use Rattle.call_rules.specs.Packet.{Packet}
 use Rattle.replay_model.specs.Record.{Impossible}
 use Rattle.replay_model.specs.Arrival.{frame_of}
 use Rattle.replay_model.specs.World.{World, packet_at}
-use Rattle.replay_model.specs.Step.{Outcome, receives, damage_event}
+use Rattle.replay_model.specs.Step.{Outcome, receives, damage_event, impossible}
 use Rattle.replay_packets.specs.Sent.{SentFrame}
 use Rattle.replay_lines.specs.Page.{Page}
 use Rattle.replay_world.specs.Delivery.{TakenAs}
 use Rattle.replay_world.specs.Stored.{Stored, packets_of}
 use Rattle.replay_world.specs.Stands.{Stands}
 use Rattle.replay_world.specs.contracts.world.World.{the_view}
-use Rattle.replay_world.proofs.WorldSteps.{damage_event-none, damage_event-within, damage_event-past}
 use Rattle.replay_world.proofs.Standing.{plays_one, plays_as, no_packet, sent_packet, place_at, stands-machines}
 use Rattle.replay_world.proofs.world.World.damage.Goals as goal
+
+damage_event-none : (w : World) (k bit : ℕ) (o : Option Packet) → o ≡ None → damage_event w k bit o ≡ impossible w
+unfolding damage_event
+damage_event-none w k bit o h = ap (damage_event w k bit) h
+
+damage_event-within : (w : World) (k bit : ℕ) (o : Option Packet) (p : Packet) → o ≡ Some p → bit < 8 * length (frame_of p) → damage_event w k bit o ≡ receives w k p.to (flipped (frame_of p) bit)
+unfolding damage_event
+damage_event-within w k bit o p h l = ap (damage_event w k bit) h ∙ cond-true _ _ _ (lt-ltb bit (8 * length (frame_of p)) l)
+
+damage_event-past : (w : World) (k bit : ℕ) (o : Option Packet) (p : Packet) → o ≡ Some p → 8 * length (frame_of p) ≤ bit → damage_event w k bit o ≡ impossible w
+unfolding damage_event
+damage_event-past w k bit o p h l = ap (damage_event w k bit) h ∙ cond-false _ _ _ (le-ltb bit (8 * length (frame_of p)) l)
 
 pub returns-in_default-clause-played : goal.returns-in_default-clause-played
 returns-in_default-clause-played c w h named =

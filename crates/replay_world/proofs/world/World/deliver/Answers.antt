@@ -1,17 +1,26 @@
-use Rattle.std.proofs.Common.{◌≡◌, ℕ, ◌-◌, ◌≤◌, ◌<◌, List, length, ap, sym, subst, ◌∙◌, arith}
+use Rattle.std.proofs.Common.{◌≡◌, ℕ, ◌-◌, ◌≤◌, ◌<◌, List, length, ap, sym, subst, ◌∙◌, arith, Option, Some, None}
 use Rattle.std.proofs.lemmas.Result.{on_ok_weaker}
+use Rattle.call_rules.specs.Packet.{Packet}
 use Rattle.replay_model.specs.Record.{Impossible}
 use Rattle.replay_model.specs.World.{World, packet_at}
-use Rattle.replay_model.specs.Step.{Outcome, receives, deliver_event}
+use Rattle.replay_model.specs.Step.{Outcome, receives, deliver_event, impossible}
+use Rattle.replay_model.specs.Arrival.{frame_of}
 use Rattle.replay_packets.specs.Sent.{SentFrame}
 use Rattle.replay_lines.specs.Page.{Page}
 use Rattle.replay_world.specs.Delivery.{TakenAs}
 use Rattle.replay_world.specs.Stored.{Stored, packets_of}
 use Rattle.replay_world.specs.Stands.{Stands}
 use Rattle.replay_world.specs.contracts.world.World.{the_view}
-use Rattle.replay_world.proofs.WorldSteps.{deliver_event-none, deliver_event-some}
 use Rattle.replay_world.proofs.Standing.{plays_one, plays_as, no_packet, sent_packet, place_at, stands-machines}
 use Rattle.replay_world.proofs.world.World.deliver.Goals as goal
+
+deliver_event-none : (w : World) (k : ℕ) (o : Option Packet) → o ≡ None → deliver_event w k o ≡ impossible w
+unfolding deliver_event
+deliver_event-none w k o h = ap (deliver_event w k) h
+
+deliver_event-some : (w : World) (k : ℕ) (o : Option Packet) (p : Packet) → o ≡ Some p → deliver_event w k o ≡ receives w k p.to (frame_of p)
+unfolding deliver_event
+deliver_event-some w k o p h = ap (deliver_event w k) h
 
 pub returns-in_default-clause-played : goal.returns-in_default-clause-played
 returns-in_default-clause-played c w h named =

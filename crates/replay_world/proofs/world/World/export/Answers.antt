@@ -1,18 +1,27 @@
-use Rattle.std.proofs.Common.{ℕ, List, Result, sym, subst, refl}
+use Rattle.std.proofs.Common.{ℕ, List, Result, sym, subst, refl, ◌≡◌}
 use Rattle.std.proofs.lemmas.Result.{on_ok_weaker}
 use Rattle.rpc_header.specs.declared.Export.{Export}
 use Rattle.binder.specs.declared.row.ExportFault.{ExportFault}
 use Rattle.replay_model.specs.Record.{Exports, NoExport}
-use Rattle.replay_model.specs.World.{Server}
+use Rattle.replay_model.specs.World.{Server, World}
 use Rattle.replay_model.specs.Step.{Outcome, export_event}
 use Rattle.replay_server.specs.Lives as server
+use Rattle.replay_server.specs.Lives.{ExportsAs}
 use Rattle.replay_lines.specs.Page.{Page}
 use Rattle.replay_world.specs.Stored.{Stored}
-use Rattle.replay_world.specs.Stands.{Stands}
+use Rattle.replay_world.specs.Stands.{Stands, IsServer}
 use Rattle.replay_world.specs.contracts.world.World.{the_view}
-use Rattle.replay_world.proofs.Machines.{exported_in}
 use Rattle.replay_world.proofs.Standing.{plays_one, plays_as, stands-server}
 use Rattle.replay_world.proofs.world.World.export.Goals as goal
+
+-- the server has exported a name, or hasn't
+exported_in : (w : World) (second : ℕ) (old now : Server) (name : List ℕ) (exported : Result Export ExportFault) → second ≡ w.second → IsServer old w.server
+    → ((v : World) → ExportsAs (record v { server = old; second = second }) now exported (export_event (record v { server = old; second = second }) name))
+    → ExportsAs w now exported (export_event w name)
+exported_in w second old now name exported at is told =
+    let T : ℕ → Type 0 = λ n. ExportsAs (record w { server = old; second = n }) now exported (export_event (record w { server = old; second = n }) name) in
+    let P : Server → Type 0 = λ s. ExportsAs (record w { server = s }) now exported (export_event (record w { server = s }) name) in
+    subst P is (subst T at (told w))
 
 pub returns-clause-played : goal.returns-clause-played
 returns-clause-played c w h =

@@ -1,14 +1,21 @@
-use Rattle.std.proofs.Common.{ℕ, ◌≤◌, List, sym, subst, arith}
+use Rattle.std.proofs.Common.{ℕ, ◌≤◌, List, sym, subst, arith, ◌≡◌, ◌<◌, [], ◌∷◌}
 use Rattle.std.proofs.lemmas.Result.{on_ok_weaker}
+use Rattle.std.proofs.lemmas.Bool.{cond-true, cond-false, le-ltb, lt-ltb}
 use Rattle.replay_model.specs.Record.{Impossible, Seconds}
-use Rattle.replay_model.specs.Step.{impossible}
+use Rattle.replay_model.specs.Step.{impossible, second_event}
+use Rattle.replay_model.specs.World.{World}
 use Rattle.replay_lines.specs.Page.{Page}
 use Rattle.replay_world.specs.Stored.{Stored}
 use Rattle.replay_world.specs.Stands.{Stands}
 use Rattle.replay_world.specs.contracts.world.World.{the_view}
-use Rattle.replay_world.proofs.WorldSteps.{second_event-late, second_event-passes}
 use Rattle.replay_world.proofs.Standing.{plays_one, plays_as, stands-second}
 use Rattle.replay_world.proofs.world.World.pass.Goals as goal
+
+second_event-late : (w : World) (second : ℕ) → second ≤ w.second → second_event w second ≡ impossible w
+second_event-late w second h = cond-false _ _ _ (le-ltb w.second second h)
+
+second_event-passes : (w : World) (second : ℕ) → w.second < second → second_event w second ≡ record { world = record w { second = second }; acts = Seconds second ∷ [] }
+second_event-passes w second h = cond-true _ _ _ (lt-ltb w.second second h)
 
 pub returns-then-second-self-clause-played : goal.returns-then-second-self-clause-played
 returns-then-second-self-clause-played c w h =

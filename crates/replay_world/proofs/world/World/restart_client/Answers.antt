@@ -1,8 +1,9 @@
-use Rattle.std.proofs.Common.{◌≡◌, ℕ, ◌+◌, ◌-◌, ◌≤◌, List, ◌++◌, Bool, Some, length, set, ap, sym, subst, refl, ◌∙◌, arith}
+use Rattle.std.proofs.Common.{◌≡◌, ℕ, ◌+◌, ◌-◌, ◌≤◌, List, ◌++◌, Bool, Some, length, set, ap, sym, subst, refl, ◌∙◌, arith, [], ◌∷◌, true, false, cond}
 use Rattle.std.proofs.lemmas.Result.{on_ok_weaker}
+use Rattle.std.specs.Prelude.{nat_lt}
 use Rattle.replay_model.specs.Record.{Impossible, Restarts}
 use Rattle.replay_model.specs.Lines.{lines_of_act}
-use Rattle.replay_model.specs.World.{Client, numbered}
+use Rattle.replay_model.specs.World.{Client, numbered, World, booted_client}
 use Rattle.replay_model.specs.Step.{Outcome, impossible, with_client, boots_client}
 use Rattle.storm_model.specs.OpenCalls.{open_of, lost_of}
 use Rattle.replay_client.specs.Client as client
@@ -10,11 +11,38 @@ use Rattle.replay_lines.specs.Page.{Page, written}
 use Rattle.replay_world.specs.Stored.{Stored}
 use Rattle.replay_world.specs.Stands.{Stands, IsClient}
 use Rattle.replay_world.specs.contracts.world.World.{the_view}
-use Rattle.replay_world.proofs.Machines.{client_boots_in, lost_booted, lost_stayed}
 use Rattle.replay_world.proofs.Numbered.{numbered-none}
 use Rattle.replay_world.proofs.Standing.{on_ok_always, plays_one, plays_as, stands-clients, stands-lost, client_of, clients_with, clients_same}
 use Rattle.replay_world.proofs.Zips.{zip-length}
 use Rattle.replay_world.proofs.world.World.restart_client.Goals as goal
+
+-- a client has booted anew, or hasn't
+client_boots_in : (w : World) (second machine : ℕ) (c old now : Client) (booted : Bool) → second ≡ w.second → IsClient old c
+    → ((v : World) → client.RestartsAs (record v { second = second }) machine old now booted (boots_client (record v { second = second }) machine (Some old)))
+    → client.RestartsAs w machine c now booted (boots_client w machine (Some c))
+client_boots_in w second machine c old now booted at is told =
+    let T : ℕ → Type 0 = λ n. client.RestartsAs (record w { second = n }) machine old now booted (boots_client (record w { second = n }) machine (Some old)) in
+    let P : Client → Type 0 = λ x. client.RestartsAs w machine x now booted (boots_client w machine (Some x)) in
+    subst P is (subst T at (told w))
+
+-- the calls that a client has lost where it has booted anew, and where it hasn't
+lost_late : (late : Bool) (w : World) (machine : ℕ) (c now : Client)
+    → cond late (record { world = with_client w machine (booted_client w.second machine); acts = Restarts machine w.second ∷ [] }) (impossible w) ≡ record { world = with_client w machine now; acts = Restarts machine w.second ∷ [] }
+    → cond late (open_of c) 0 ≡ open_of c
+lost_late true w machine c now h = refl
+lost_late false w machine c now h = let acts = ap (λ (o : Outcome). o.acts) h in absurd (cc)
+
+lost_booted : (w : World) (machine : ℕ) (c now : Client) → client.RestartsAs w machine c now true (boots_client w machine (Some c)) → lost_of w (Some c) ≡ open_of c
+lost_booted w machine c now h = lost_late (nat_lt c.read w.second) w machine c now h
+
+lost_early : (late : Bool) (w : World) (machine : ℕ) (c : Client)
+    → cond late (record { world = with_client w machine (booted_client w.second machine); acts = Restarts machine w.second ∷ [] }) (impossible w) ≡ impossible w
+    → cond late (open_of c) 0 ≡ 0
+lost_early true w machine c h = let acts = ap (λ (o : Outcome). o.acts) h in absurd (cc)
+lost_early false w machine c h = refl
+
+lost_stayed : (w : World) (machine : ℕ) (c now : Client) → client.RestartsAs w machine c now false (boots_client w machine (Some c)) → lost_of w (Some c) ≡ 0
+lost_stayed w machine c now h = lost_early (nat_lt c.read w.second) w machine c h.0
 
 pub returns-then-place-len-clause-played : goal.returns-then-place-len-clause-played
 returns-then-place-len-clause-played c w h =

@@ -1,17 +1,25 @@
-use Rattle.std.proofs.Common.{ℕ, List, ◌++◌, Bool, ap, sym, subst, refl, ◌∙◌}
+use Rattle.std.proofs.Common.{ℕ, List, ◌++◌, Bool, ap, sym, subst, refl, ◌∙◌, ◌≡◌}
 use Rattle.std.proofs.lemmas.Result.{on_ok_weaker}
 use Rattle.replay_model.specs.Record.{Impossible, Restarts}
 use Rattle.replay_model.specs.Lines.{lines_of_act}
-use Rattle.replay_model.specs.World.{Server}
+use Rattle.replay_model.specs.World.{Server, World}
 use Rattle.replay_model.specs.Step.{Outcome, boots_server}
 use Rattle.replay_server.specs.Lives as server
 use Rattle.replay_lines.specs.Page.{Page, written}
 use Rattle.replay_world.specs.Stored.{Stored}
-use Rattle.replay_world.specs.Stands.{Stands}
+use Rattle.replay_world.specs.Stands.{Stands, IsServer}
 use Rattle.replay_world.specs.contracts.world.World.{the_view}
-use Rattle.replay_world.proofs.Machines.{server_boots_in}
 use Rattle.replay_world.proofs.Standing.{plays_one, plays_as, stands-server}
 use Rattle.replay_world.proofs.world.World.restart_server.Goals as goal
+
+-- the server has booted anew, or hasn't
+server_boots_in : (w : World) (second : ℕ) (old now : Server) (booted : Bool) → second ≡ w.second → IsServer old w.server
+    → ((v : World) → server.RestartsAs (record v { server = old; second = second }) old now booted (boots_server (record v { server = old; second = second })))
+    → server.RestartsAs w w.server now booted (boots_server w)
+server_boots_in w second old now booted at is told =
+    let T : ℕ → Type 0 = λ n. server.RestartsAs (record w { server = old; second = n }) old now booted (boots_server (record w { server = old; second = n })) in
+    let P : Server → Type 0 = λ s. server.RestartsAs (record w { server = s }) s now booted (boots_server (record w { server = s })) in
+    subst P is (subst T at (told w))
 
 pub returns-clause-played : goal.returns-clause-played
 returns-clause-played c w h =

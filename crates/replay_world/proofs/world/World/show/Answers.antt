@@ -1,5 +1,6 @@
-use Rattle.std.proofs.Common.{ℕ, ◌-◌, ◌≤◌, ◌<◌, List, ◌++◌, length, ap, sym, subst, ◌∙◌, arith}
+use Rattle.std.proofs.Common.{ℕ, ◌-◌, ◌≤◌, ◌<◌, List, ◌++◌, length, ap, sym, subst, ◌∙◌, arith, ◌≡◌, [], ◌∷◌, Option, Some, None}
 use Rattle.std.proofs.lemmas.Result.{on_ok_weaker}
+use Rattle.call_rules.specs.Packet.{Packet}
 use Rattle.replay_model.specs.Record.{Impossible, Shows}
 use Rattle.replay_model.specs.Arrival.{frame_of}
 use Rattle.replay_packets.specs.Sent.{SentFrame}
@@ -7,10 +8,17 @@ use Rattle.replay_lines.specs.Page.{Page, written}
 use Rattle.replay_world.specs.Stored.{Stored, packets_of}
 use Rattle.replay_world.specs.Stands.{Stands}
 use Rattle.replay_world.specs.contracts.world.World.{the_view}
-use Rattle.replay_world.proofs.WorldSteps.{show_event-none, show_event-some}
 use Rattle.replay_world.proofs.Standing.{plays_one, plays_as, no_packet, sent_packet, place_at}
 use Rattle.replay_model.specs.Lines.{lines_of_act}
+use Rattle.replay_model.specs.World.{World}
+use Rattle.replay_model.specs.Step.{impossible, show_event}
 use Rattle.replay_world.proofs.world.World.show.Goals as goal
+
+show_event-none : (w : World) (k : ℕ) (o : Option Packet) → o ≡ None → show_event w k o ≡ impossible w
+show_event-none w k o h = ap (show_event w k) h
+
+show_event-some : (w : World) (k : ℕ) (o : Option Packet) (p : Packet) → o ≡ Some p → show_event w k o ≡ record { world = w; acts = Shows k (frame_of p) ∷ [] }
+show_event-some w k o p h = ap (show_event w k) h
 
 pub returns-in_default : goal.returns-in_default
 returns-in_default c w h named =

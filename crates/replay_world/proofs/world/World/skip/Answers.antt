@@ -1,20 +1,35 @@
-use Rattle.std.proofs.Common.{◌≡◌, ℕ, ◌-◌, ◌≤◌, List, Option, length, set, sym, subst, refl, ◌∙◌, arith}
+use Rattle.std.proofs.Common.{◌≡◌, ℕ, ◌-◌, ◌≤◌, List, Option, length, set, sym, subst, refl, ◌∙◌, arith, Some, None, ap}
 use Rattle.std.proofs.lemmas.Result.{on_ok_weaker}
 use Rattle.replay_model.specs.Record.{Impossible, Skips}
-use Rattle.replay_model.specs.World.{Client, numbered}
-use Rattle.replay_model.specs.Step.{Outcome, impossible, with_client, skip_by}
+use Rattle.replay_model.specs.World.{Client, numbered, World}
+use Rattle.replay_model.specs.Step.{Outcome, impossible, with_client, skip_by, skip_event}
 use Rattle.replay_client.specs.declared.machine.Skipped.{Skipped}
 use Rattle.replay_client.specs.Client as client
+use Rattle.replay_client.specs.Client.{SkipsAs}
 use Rattle.replay_lines.specs.Page.{Page}
 use Rattle.replay_world.specs.Stored.{Stored}
 use Rattle.replay_world.specs.Stands.{Stands, IsClient}
 use Rattle.replay_world.specs.contracts.world.World.{the_view}
-use Rattle.replay_world.proofs.Machines.{skipped_in}
 use Rattle.replay_world.proofs.Numbered.{numbered-none}
-use Rattle.replay_world.proofs.WorldSteps.{skip_event-none, skip_event-some}
 use Rattle.replay_world.proofs.Standing.{plays_one, plays_as, stands-clients, client_of, clients_with, clients_same}
 use Rattle.replay_world.proofs.Zips.{zip-length}
 use Rattle.replay_world.proofs.world.World.skip.Goals as goal
+
+skip_event-none : (w : World) (m p : ℕ) (o : Option Client) (by : ℕ) → o ≡ None → skip_event w m p o by ≡ impossible w
+unfolding skip_event
+skip_event-none w m p o by h = ap (λ (x : Option Client). skip_event w m p x by) h
+
+skip_event-some : (w : World) (m p : ℕ) (o : Option Client) (c : Client) (by : ℕ) → o ≡ Some c → skip_event w m p o by ≡ skip_by w m p c (numbered 1 c.lines p) by
+unfolding skip_event
+skip_event-some w m p o c by h = ap (λ (x : Option Client). skip_event w m p x by) h
+
+-- a process of a client has passed over numbers
+skipped_in : (w : World) (machine process by : ℕ) (c old now : Client) (skipped : Option Skipped) → IsClient old c
+    → ((v : World) (m : ℕ) → SkipsAs v m now skipped (skip_by v m process old (numbered 1 old.lines process) by))
+    → SkipsAs w machine now skipped (skip_by w machine process c (numbered 1 c.lines process) by)
+skipped_in w machine process by c old now skipped is told =
+    let P : Client → Type 0 = λ x. SkipsAs w machine now skipped (skip_by w machine process x (numbered 1 x.lines process) by) in
+    subst P is (told w machine)
 
 pub returns-then-place-len-clause-played : goal.returns-then-place-len-clause-played
 returns-then-place-len-clause-played c w h =

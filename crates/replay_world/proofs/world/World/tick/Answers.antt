@@ -1,8 +1,9 @@
-use Rattle.std.proofs.Common.{◌≡◌, ℕ, ◌-◌, ◌≤◌, List, length, set, true, false, Option, Ok, ap, sym, subst, refl, ◌∙◌, arith}
+use Rattle.std.proofs.Common.{◌≡◌, ℕ, ◌-◌, ◌≤◌, List, length, set, true, false, Option, Ok, ap, sym, subst, refl, ◌∙◌, arith, Some, None}
 use Rattle.call_rules.specs.Packet.{Call, call_of}
 use Rattle.replay_model.specs.World.{World, Client, numbered}
-use Rattle.replay_model.specs.Step.{Outcome, nothing, tells, tick, ticks_line, with_client}
+use Rattle.replay_model.specs.Step.{Outcome, nothing, tells, tick, ticks_line, with_client, ticks_client}
 use Rattle.replay_model.specs.Process as process
+use Rattle.replay_model.specs.declared.limits.TheConstants.{FIRST_CLIENT}
 use Rattle.replay_client.specs.declared.told.Said.{Said}
 use Rattle.replay_client.specs.declared.told.Said.TheVariants as said
 use Rattle.replay_client.specs.declared.told.Told.{Told}
@@ -13,13 +14,32 @@ use Rattle.replay_world.specs.Stored.{Stored}
 use Rattle.replay_world.specs.Stands.{Stands, IsClient}
 use Rattle.replay_world.specs.Played.{PlaysTick, is_silent}
 use Rattle.replay_world.specs.contracts.world.World.{the_view}
-use Rattle.replay_world.proofs.Machines.{ticked_in}
 use Rattle.replay_world.proofs.Numbered.{numbered-none}
-use Rattle.replay_world.proofs.WorldSteps.{tick-none, tick-some}
 use Rattle.replay_world.proofs.Standing.{plays_none, plays_as, stands-clients, client_of, clients_with, clients_same}
 use Rattle.replay_world.proofs.Zips.{zip-length}
 use Rattle.replay_world.proofs.world.World.tick.Goals as goal
 use Rattle.replay_world.proofs.world.World.tick.Goals.{in-Nothing, in_default-matches}
+
+tick-none : (w : World) (m p : ℕ) → numbered FIRST_CLIENT w.clients m ≡ None → tick w m p ≡ nothing w
+unfolding tick
+tick-none w m p h = ap (ticks_client w m p) h
+
+tick-some : (w : World) (m p : ℕ) (c : Client) → numbered FIRST_CLIENT w.clients m ≡ Some c → tick w m p ≡ ticks_line w m p c (numbered 1 c.lines p)
+unfolding tick
+tick-some w m p c h = ap (ticks_client w m p) h
+
+-- a process of a client has had a tick
+record Ticked (w : World) (machine process : ℕ) (c now : Client) (told : Option Told) : Type 0 where
+  pub client : Client
+  pub is_client : IsClient now client
+  pub outcome : TicksAs w machine client told (ticks_line w machine process c (numbered 1 c.lines process))
+  pub nobody : told ≡ None → client ≡ c
+
+ticked_in : (w : World) (machine process : ℕ) (c old now : Client) (told : Option Told) → IsClient old c
+    → ((v : World) → TicksAs v machine now told (ticks_line v machine process old (numbered 1 old.lines process))) → (told ≡ None → now ≡ old) → Ticked w machine process c now told
+ticked_in w machine process c old now told is by nobody =
+    let P : Client → Type 0 = λ x. TicksAs w machine now told (ticks_line w machine process x (numbered 1 x.lines process)) in
+    record { client = now; is_client = refl; outcome = subst P is (by w); nobody = λ none. nobody none ∙ is }
 
 -- a tick in which nothing happens
 quietly : (before : Page) (s : Stored) (w : World) (o : Outcome) → Stands s w → o ≡ nothing w → PlaysTick true before before s w.records o

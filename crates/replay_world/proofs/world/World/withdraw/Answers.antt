@@ -1,16 +1,24 @@
 use Rattle.std.proofs.Common.{ℕ, List, Option, sym, subst, refl}
 use Rattle.std.proofs.lemmas.Result.{on_ok_weaker}
 use Rattle.replay_model.specs.Record.{Impossible, Withdraws}
-use Rattle.replay_model.specs.World.{Server}
+use Rattle.replay_model.specs.World.{Server, World}
 use Rattle.replay_model.specs.Step.{Outcome, withdraw_event}
 use Rattle.replay_server.specs.Lives as server
+use Rattle.replay_server.specs.Lives.{WithdrawsAs}
 use Rattle.replay_lines.specs.Page.{Page}
 use Rattle.replay_world.specs.Stored.{Stored}
-use Rattle.replay_world.specs.Stands.{Stands}
+use Rattle.replay_world.specs.Stands.{Stands, IsServer}
 use Rattle.replay_world.specs.contracts.world.World.{the_view}
-use Rattle.replay_world.proofs.Machines.{withdrawn_in}
 use Rattle.replay_world.proofs.Standing.{plays_one, plays_as, stands-server}
 use Rattle.replay_world.proofs.world.World.withdraw.Goals as goal
+
+-- the server has taken an export back, or hasn't
+withdrawn_in : (w : World) (old now : Server) (name : List ℕ) (index : Option ℕ) → IsServer old w.server
+    → ((v : World) → WithdrawsAs (record v { server = old }) now index (withdraw_event (record v { server = old }) name))
+    → WithdrawsAs w now index (withdraw_event w name)
+withdrawn_in w old now name index is told =
+    let P : Server → Type 0 = λ s. WithdrawsAs (record w { server = s }) now index (withdraw_event (record w { server = s }) name) in
+    subst P is (told w)
 
 pub returns-in_default-clause-played : goal.returns-in_default-clause-played
 returns-in_default-clause-played c w h =

@@ -1,18 +1,32 @@
-use Rattle.std.proofs.Common.{◌≡◌, ℕ, List, sym, subst}
+use Rattle.std.proofs.Common.{◌≡◌, ℕ, List, sym, subst, refl}
 use Rattle.std.proofs.lemmas.Result.{on_ok_weaker}
 use Rattle.replay_model.specs.Record.{Impossible, Idles}
-use Rattle.replay_model.specs.World.{Server, numbered}
+use Rattle.replay_model.specs.World.{Server, numbered, World}
 use Rattle.replay_model.specs.Step.{Outcome, work_event, impossible}
 use Rattle.replay_server.specs.declared.step.Worked.{Worked}
 use Rattle.replay_server.specs.declared.step.Worked.TheVariants as worked
 use Rattle.replay_server.specs.Stepped.{WorksAs, KeepsIdle, StepsAs}
 use Rattle.replay_lines.specs.Page.{Page}
 use Rattle.replay_world.specs.Stored.{Stored}
-use Rattle.replay_world.specs.Stands.{Stands}
+use Rattle.replay_world.specs.Stands.{Stands, IsServer}
 use Rattle.replay_world.specs.contracts.world.World.{the_view}
-use Rattle.replay_world.proofs.Machines.{worker_in}
 use Rattle.replay_world.proofs.Standing.{plays_one, plays_as, stands-server}
 use Rattle.replay_world.proofs.world.World.work.Goals as goal
+
+-- a worker has stepped, and the machine stands for this server
+record Worker (w : World) (who : ℕ) (now : Server) (worked : Worked) : Type 0 where
+  pub server : Server
+  pub is_server : IsServer now server
+  pub outcome : WorksAs w who server worked (work_event w who (numbered 1 w.server.workers who))
+  pub idle : KeepsIdle worked w.server server
+
+worker_in : (w : World) (who : ℕ) (old now : Server) (worked : Worked) → IsServer old w.server
+    → ((v : World) → WorksAs (record v { server = old }) who now worked (work_event (record v { server = old }) who (numbered 1 old.workers who))) → KeepsIdle worked old now
+    → Worker w who now worked
+worker_in w who old now worked is told idle =
+    let P : Server → Type 0 = λ s. WorksAs (record w { server = s }) who now worked (work_event (record w { server = s }) who (numbered 1 s.workers who)) in
+    let Q : Server → Type 0 = λ s. KeepsIdle worked s now in
+    record { server = now; is_server = refl; outcome = subst P is (told w); idle = subst Q is idle }
 
 pub returns-in-Impossible-clause-played : goal.returns-in-Impossible-clause-played
 returns-in-Impossible-clause-played c w h =
