@@ -11,6 +11,3 @@ mod state;
 
 pub use action::Action;
 pub use caller::Caller;
-
-#[cfg(test)]
-mod tests;

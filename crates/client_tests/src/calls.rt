@@ -60,11 +60,8 @@ fn an_empty_call_returns_once(rt: HostRuntime) -> Result<(), Fail> {
     let alloc = rt.alloc();
     let mut client = ClientMachine::boot(alloc, 1, 2)?;
     let header = call(&mut client, alloc, 8)?;
-    assert!(rt; (header.kind, header.please_ack, header.last) == (Kind::Call, false, true));
-    assert!(rt; (header.hint, header.procedure) == (7, 0));
-    assert!(rt; header.call.number.value == 65536);
     let called = client.call(alloc, CLIENT, 8, CallWord::Null, 1)?;
-    assert!(rt; matches!(called, Called::Impossible));
+    let is_impossible = matches!(called, Called::Impossible);
     let reply = Header {
         kind: Kind::Result,
         ..header
@@ -72,11 +69,15 @@ fn an_empty_call_returns_once(rt: HostRuntime) -> Result<(), Fail> {
     let Took::Hears(told) = take(&mut client, alloc, reply)? else {
         return Err("a reply".into());
     };
-    assert!(rt; told.call == header.call);
-    assert!(rt; matches!(told.said, Said::Returned { signal: false, .. }));
+    let returns = matches!(told.said, Said::Returned { signal: false, .. });
     let again = take(&mut client, alloc, reply)?;
-    assert!(rt; matches!(again, Took::Dropped(Discard::Stale)));
-    assert!(rt; call(&mut client, alloc, 8)?.call.number.value == 65537);
+    let is_stale = matches!(again, Took::Dropped(Discard::Stale));
+    let next = call(&mut client, alloc, 8)?.call.number;
+    assert!(rt; (header.kind, header.hint, header.procedure) == (Kind::Call, 7, 0));
+    assert!(rt; [header.please_ack, header.last] == [false, true]);
+    assert!(rt; [header.call.number.value, next.value] == [65536, 65537]);
+    assert!(rt; told.call == header.call);
+    assert!(rt; [is_impossible, returns, is_stale] == [true; 3]);
     Ok(())
 }
 
@@ -168,14 +169,15 @@ fn numbers_are_passed_over_to_the_last_of_the_second(rt: HostRuntime) -> Result<
         machine: 2,
         process: 1,
     };
-    assert!(rt; activity == first && next == 131_071);
-    assert!(rt; number_at(&mut client, alloc, 1)? == 131_071);
-    assert!(rt; client.skip(1, 1).is_none());
+    let number = number_at(&mut client, alloc, 1)?;
+    let skips_no_more = client.skip(1, 1).is_none();
     let called = client.call(alloc, CLIENT, 1, CallWord::Null, 1)?;
-    assert!(rt; matches!(called, Called::Impossible));
-    assert!(rt; client.skip(2, 65536).is_some());
+    let is_impossible = matches!(called, Called::Impossible);
+    let skips_all = client.skip(2, 65536).is_some();
     let called = client.call(alloc, CLIENT, 2, CallWord::Null, 1)?;
-    assert!(rt; matches!(called, Called::TooFast(131_072)));
+    let is_too_fast = matches!(called, Called::TooFast(131_072));
+    assert!(rt; (activity, next, number) == (first, 131_071, 131_071));
+    assert!(rt; [skips_no_more, is_impossible, skips_all, is_too_fast] == [true; 4]);
     Ok(())
 }
 

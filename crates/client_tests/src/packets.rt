@@ -86,11 +86,15 @@ fn an_empty_call_arrives_at_the_server(rt: HostRuntime) -> Result<(), Fail> {
     let Ok(arrived) = arrive(SERVER, &EMPTY_CALL) else {
         return Err("a packet".into());
     };
-    assert!(rt; (arrived.from, arrived.to) == (CLIENT, SERVER));
-    assert!(rt; arrived.header.kind == Kind::Call);
-    assert!(rt; arrived.header.call.activity.machine == 2);
-    assert!(rt; arrived.header.call.number.value == 65536);
-    assert!(rt; arrived.payload.len() == 0);
+    let Header { kind, call, .. } = arrived.header;
+    assert!(rt; (arrived.from, arrived.to, kind) == (CLIENT, SERVER, Kind::Call));
+    assert!(rt;
+        (
+            call.activity.machine,
+            call.number.value,
+            arrived.payload.len()
+        ) == (2, 65536, 0)
+    );
     Ok(())
 }
 
@@ -157,14 +161,14 @@ fn one_bit_of_a_frame_is_flipped(rt: HostRuntime) -> Result<(), Fail> {
     let alloc = rt.alloc();
     let sent = packet(alloc, (CLIENT, SERVER), Kind::Call, CLIENT, 0, &[])?.sent();
     let first = sent.damaged(alloc, 0)?.ok_or("bit 0")?;
-    assert!(rt; first.first() == Some(&0x82));
-    assert!(rt; first.get(1..) == EMPTY_CALL.get(1..));
     let last = sent.damaged(alloc, 591)?.ok_or("bit 591")?;
-    assert!(rt; last.get(..73) == EMPTY_CALL.get(..73));
-    assert!(rt; last.last() == Some(&0x01));
+    let behind = sent.damaged(alloc, 592)?;
+    let far_behind = sent.damaged(alloc, u16::MAX)?;
+    assert!(rt; [first.first(), last.last()] == [Some(&0x82), Some(&0x01)]);
+    let same = [EMPTY_CALL.get(1..), EMPTY_CALL.get(..73)];
+    assert!(rt; [first.get(1..), last.get(..73)] == same);
     assert!(rt; arrive(SERVER, &last).err() == Some(Discard::Frame(FrameFault::UdpChecksum)));
-    assert!(rt; sent.damaged(alloc, 592)?.is_none());
-    assert!(rt; sent.damaged(alloc, u16::MAX)?.is_none());
+    assert!(rt; [behind.is_none(), far_behind.is_none()] == [true; 2]);
     Ok(())
 }
 

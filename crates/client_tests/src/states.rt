@@ -1,6 +1,6 @@
 //! What process 1 of machine 2, a client, tells by its state and what comes; a call and a reply of three pieces each.
 
-use Seen::Sends;
+use Seen::{Bound as B, NotBound as N, Sends, Stale as S, Unused as U, Waits as W};
 use binder::read_name;
 use ff_io::Station;
 use replay_client::machine::{Called, ClientMachine};
@@ -62,14 +62,8 @@ fn seen_in(said: &Said) -> Seen {
             Sends(header.kind, header.fragment, packet.payload_len())
         }
         Said::Waits => Seen::Waits,
-        Said::Returned {
-            signal: false,
-            reply,
-        } => Seen::Returned(reply.len),
-        Said::Returned {
-            signal: true,
-            reply,
-        } => Seen::Signalled(reply.len),
+        Said::Returned { signal, reply } if *signal => Seen::Signalled(reply.len),
+        Said::Returned { reply, .. } => Seen::Returned(reply.len),
         Said::Fails(cause) => Seen::Fails(*cause),
         Said::BindFails => Seen::BindFails,
         Said::BoundTo(_) => Seen::Bound,
@@ -247,36 +241,43 @@ fn has_row(alloc: Global, at: At, row: [Seen; 12]) -> Result<bool, Fail> {
     Ok(true)
 }
 
-const S: Seen = Seen::Stale;
+/// The call is refused.
+const F: Seen = Seen::Fails(Cause::Refused(1));
 
-const U: Seen = Seen::Unused;
+/// Pieces 1 and 2 of the call are sent.
+const C1: Seen = Sends(Kind::Call, 1, 1440);
 
-const REFUSED: Seen = Seen::Fails(Cause::Refused(1));
+const C2: Seen = Sends(Kind::Call, 2, 120);
+
+/// Pieces 0 and 1 of the reply are acknowledged.
+const A0: Seen = Sends(Kind::Ack, 0, 0);
+
+const A1: Seen = Sends(Kind::Ack, 1, 0);
+
+/// A reply of one piece is whole, one of two pieces, and a signal.
+const R1: Seen = Seen::Returned(5);
+
+const R2: Seen = Seen::Returned(1445);
+
+const X: Seen = Seen::Signalled(2);
+
+/// What is seen of each of the packets at each state.
+static ROWS: [(At, [Seen; 12]); 8] = [
+    (At::Idle, [S; 12]),
+    (At::Sending0, [C1, U, U, U, U, U, U, U, F, U, U, S]),
+    (At::Sending1, [U, C2, U, U, U, U, U, U, F, U, U, S]),
+    (At::Sending2, [U, U, W, R1, X, A0, U, U, F, U, U, S]),
+    (At::Waiting, [U, U, W, R1, X, A0, U, U, F, U, U, S]),
+    (At::Receiving1, [U, U, U, U, U, U, A1, R2, F, U, U, S]),
+    (At::Receiving2, [U, U, U, U, U, U, U, U, F, U, U, S]),
+    (At::Binding, [U, U, U, U, U, U, U, U, U, B, N, S]),
+];
 
 #[test]
 fn packets_at_each_state(rt: HostRuntime) -> Result<(), Fail> {
-    let alloc = rt.alloc();
-    assert!(rt; has_row(alloc, At::Idle, [S; 12])?);
-    let one = Sends(Kind::Call, 1, 1440);
-    let row = [one, U, U, U, U, U, U, U, REFUSED, U, U, S];
-    assert!(rt; has_row(alloc, At::Sending0, row)?);
-    let two = Sends(Kind::Call, 2, 120);
-    let row = [U, two, U, U, U, U, U, U, REFUSED, U, U, S];
-    assert!(rt; has_row(alloc, At::Sending1, row)?);
-    let (whole, signal) = (Seen::Returned(5), Seen::Signalled(2));
-    let kept = Sends(Kind::Ack, 0, 0);
-    let waits = Seen::Waits;
-    let row = [U, U, waits, whole, signal, kept, U, U, REFUSED, U, U, S];
-    assert!(rt; has_row(alloc, At::Sending2, row)?);
-    assert!(rt; has_row(alloc, At::Waiting, row)?);
-    let (kept, whole) = (Sends(Kind::Ack, 1, 0), Seen::Returned(1445));
-    let row = [U, U, U, U, U, U, kept, whole, REFUSED, U, U, S];
-    assert!(rt; has_row(alloc, At::Receiving1, row)?);
-    let row = [U, U, U, U, U, U, U, U, REFUSED, U, U, S];
-    assert!(rt; has_row(alloc, At::Receiving2, row)?);
-    let (found, lost) = (Seen::Bound, Seen::NotBound);
-    let row = [U, U, U, U, U, U, U, U, U, found, lost, S];
-    assert!(rt; has_row(alloc, At::Binding, row)?);
+    for (at, row) in ROWS {
+        assert!(rt; has_row(rt.alloc(), at, row)?);
+    }
     Ok(())
 }
 
@@ -352,21 +353,20 @@ fn said_of(took: Took) -> Said {
 fn a_call_of_three_pieces_is_acknowledged_one_by_one(rt: HostRuntime) -> Result<(), Fail> {
     let alloc = rt.alloc();
     let text = arguments(alloc)?;
-    assert!(rt; text.len() == 3000);
     let (mut client, told) = called(alloc)?;
-    assert!(rt; told.call.number == NUMBER);
-    assert!(rt; carries(told.said, text.get(..1440)));
+    let first = carries(told.said, text.get(..1440));
     let took = take(&mut client, alloc, packet(Kind::Ack, 0), &[])?;
-    assert!(rt; carries(said_of(took), text.get(1440..2880)));
+    let second = carries(said_of(took), text.get(1440..2880));
     let took = take(&mut client, alloc, packet(Kind::Ack, 1), &[])?;
-    assert!(rt; carries(said_of(took), text.get(2880..)));
-    let took = take(&mut client, alloc, packet(Kind::Ack, 2), &[])?;
-    assert!(rt; seen_of(&took) == Seen::Waits);
-    assert!(rt; fourth_tick_is(&mut client, alloc, Sends(Kind::Probe, 2, 0))?);
-    let took = take(&mut client, alloc, packet(Kind::Result, 0), &[])?;
-    assert!(rt; seen_of(&took) == Seen::Returned(0) && client.is_idle(1));
+    let third = carries(said_of(took), text.get(2880..));
+    let acked = take(&mut client, alloc, packet(Kind::Ack, 2), &[])?;
+    let probes = fourth_tick_is(&mut client, alloc, Sends(Kind::Probe, 2, 0))?;
+    let replied = take(&mut client, alloc, packet(Kind::Result, 0), &[])?;
+    let is_idle = client.is_idle(1);
     let next = told_of(client.call(alloc, CLIENT, 1, CallWord::Null, 1)?)?;
-    assert!(rt; next.call.number.value == 65537);
+    assert!(rt; [first, second, third, probes, is_idle] == [true; 5]);
+    assert!(rt; [seen_of(&acked), seen_of(&replied)] == [W, Seen::Returned(0)]);
+    assert!(rt; (text.len(), told.call.number, next.call.number.value) == (3000, NUMBER, 65537));
     Ok(())
 }
 

@@ -4,7 +4,7 @@ use Rattle.std.proofs.Common.{Option, Some, None, Result, Ok, Err, IfOk, IfErr}
 use mathlib.Core.Option.{none, some}
 use mathlib.Core.Option as maybe
 use Rattle.packet_board.specs.declared.buffer.Buffer.{Buffer}
-use Rattle.packet_board.specs.Hands.{Held, updated, nothing, HoldsOne}
+use Rattle.packet_board.specs.Hands.{Held, updated}
 use Rattle.packet_board.proofs.Counts.{chosen}
 
 pub updated_here : (n : ℕ) (z : maybe.Option (Option Buffer)) (h : Held) → updated n z h n ≡ z
@@ -34,8 +34,3 @@ if_err (Err e) P Q f p = f e p
 
 pub out_one : (n : ℕ) (h i : Held) → i ≡ updated n (some None) h → i n ≡ some None
 out_one n h i e = ap (λ (f : Held). f n) e ∙ updated_here n (some None) h
-
--- a buffer that was in the hands alone was taken out of its slot, and another one put in
-pub wrote_one : (n : ℕ) (h i j : Held) (y : Buffer) → HoldsOne n h → i ≡ updated n (some None) h → j ≡ updated n (some (Some y)) i → HoldsOne n j
-wrote_one n h i j y one e f = let put = some (Some y) in let own = some (Some one.0) in
-    (y, f ∙ (ap (λ (z : Held). updated n put z) (e ∙ ap (λ (z : Held). updated n (some None) z) one.1) ∙ (ap (λ (z : Held). updated n put z) (updated_twice n (some None) own nothing) ∙ updated_twice n put (some None) nothing)))

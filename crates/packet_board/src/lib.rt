@@ -22,9 +22,5 @@ pub use free_words::FreeWords;
 pub use law::{BoardLaw, Choice};
 pub use layout::Layout;
 pub use seat::Seat;
-
-#[cfg(test)]
-mod tests;
-
 pub use view::{Met, View};
 pub use word::Word;

@@ -106,55 +106,63 @@ fn the_data_of_a_bind_is_read(rt: HostRuntime) {
 
 #[test]
 fn a_name_is_exported_once(rt: HostRuntime) {
+    let alloc = rt.alloc();
     let mut exports = Exports::boot(1);
-    assert!(rt; find(&exports, b"aux").is_none());
-    assert!(rt; export(&mut exports, rt.alloc(), b"main", 1) == made(1, 0));
-    let early = export(&mut exports, rt.alloc(), b"aux", 1);
-    assert!(rt; early == Some(Err(ExportFault::TooFast { next: 2, now: 1 })));
-    assert!(rt; find(&exports, b"aux").is_none());
-    assert!(rt; export(&mut exports, rt.alloc(), b"aux", 2) == made(2, 1));
-    let again = export(&mut exports, rt.alloc(), b"aux", 2);
-    assert!(rt; again == Some(Err(ExportFault::Exists)));
-    assert!(rt; find(&exports, b"aux") == bound(2, 1));
+    let before = find(&exports, b"aux");
+    let main = export(&mut exports, alloc, b"main", 1);
+    let early = export(&mut exports, alloc, b"aux", 1);
+    let still = find(&exports, b"aux");
+    let aux = export(&mut exports, alloc, b"aux", 2);
+    let again = export(&mut exports, alloc, b"aux", 2);
+    let found = find(&exports, b"aux");
+    assert!(rt; [before, still, found] == [None, None, bound(2, 1)]);
+    assert!(rt; [main, aux] == [made(1, 0), made(2, 1)]);
+    let too_fast = ExportFault::TooFast { next: 2, now: 1 };
+    assert!(rt; [early, again] == [Some(Err(too_fast)), Some(Err(ExportFault::Exists))]);
 }
 
 #[test]
 fn a_call_is_judged_by_its_row(rt: HostRuntime) {
     let mut exports = Exports::boot(1);
-    assert!(rt; judge(&exports, 1, 0, 0) == Verdict::WrongBinding);
+    let before = judge(&exports, 1, 0, 0);
     assert!(rt; export(&mut exports, rt.alloc(), b"main", 1) == made(1, 0));
-    assert!(rt; judge(&exports, 1, 0, 2) == Verdict::Accepted);
-    assert!(rt; judge(&exports, 1, 0, 3) == Verdict::NoProcedure);
-    assert!(rt; judge(&exports, 2, 0, 0) == Verdict::WrongBinding);
-    assert!(rt; judge(&exports, 1, 16, 0) == Verdict::WrongBinding);
+    let known = [judge(&exports, 1, 0, 2), judge(&exports, 1, 0, 3)];
+    assert!(rt; known == [Verdict::Accepted, Verdict::NoProcedure]);
+    let others = [before, judge(&exports, 2, 0, 0), judge(&exports, 1, 16, 0)];
+    assert!(rt; others == [Verdict::WrongBinding; 3]);
 }
 
 #[test]
 fn a_withdrawn_row_is_used_again(rt: HostRuntime) {
+    let alloc = rt.alloc();
     let mut exports = Exports::boot(1);
-    assert!(rt; export(&mut exports, rt.alloc(), b"main", 9) == made(1, 0));
-    assert!(rt; export(&mut exports, rt.alloc(), b"aux", 9) == made(2, 1));
-    assert!(rt; withdraw(&mut exports, b"main") == bound(1, 0));
-    assert!(rt; withdraw(&mut exports, b"main").is_none());
-    assert!(rt; judge(&exports, 1, 0, 0) == Verdict::WrongBinding);
-    assert!(rt; find(&exports, b"aux") == bound(2, 1));
-    assert!(rt; export(&mut exports, rt.alloc(), b"main", 9) == made(3, 0));
-    assert!(rt; judge(&exports, 1, 0, 0) == Verdict::WrongBinding);
+    let main = export(&mut exports, alloc, b"main", 9);
+    let aux = export(&mut exports, alloc, b"aux", 9);
+    let withdrawn = withdraw(&mut exports, b"main");
+    let again = withdraw(&mut exports, b"main");
+    let between = judge(&exports, 1, 0, 0);
+    let found = find(&exports, b"aux");
+    let anew = export(&mut exports, alloc, b"main", 9);
+    let after = judge(&exports, 1, 0, 0);
+    assert!(rt; [main, aux, anew] == [made(1, 0), made(2, 1), made(3, 0)]);
+    assert!(rt; [withdrawn, again, found] == [bound(1, 0), None, bound(2, 1)]);
+    assert!(rt; [between, after] == [Verdict::WrongBinding; 2]);
 }
 
 #[test]
 fn sixteen_rows_are_all(rt: HostRuntime) {
+    let alloc = rt.alloc();
     let mut exports = Exports::boot(7);
     for letter in b"abcdefghijklmnop" {
-        let answer = export(&mut exports, rt.alloc(), &[*letter], 100);
+        let answer = export(&mut exports, alloc, &[*letter], 100);
         assert!(rt; answer.is_some_and(|made| made.is_ok()));
     }
-    let full = export(&mut exports, rt.alloc(), b"q", 0);
-    assert!(rt; full == Some(Err(ExportFault::Full)));
-    let again = export(&mut exports, rt.alloc(), b"p", 0);
-    assert!(rt; again == Some(Err(ExportFault::Exists)));
-    assert!(rt; withdraw(&mut exports, b"f") == bound(12, 5));
-    assert!(rt; export(&mut exports, rt.alloc(), b"q", 23) == made(23, 5));
+    let full = export(&mut exports, alloc, b"q", 0);
+    let again = export(&mut exports, alloc, b"p", 0);
+    assert!(rt; [full, again] == [Some(Err(ExportFault::Full)), Some(Err(ExportFault::Exists))]);
+    let withdrawn = withdraw(&mut exports, b"f");
+    let made_anew = export(&mut exports, alloc, b"q", 23);
+    assert!(rt; (withdrawn, made_anew) == (bound(12, 5), made(23, 5)));
 }
 
 #[test]

@@ -69,27 +69,35 @@ fn a_call_with_data_is_written_and_read(rt: HostRuntime) -> Result<(), Fail> {
     Ok(())
 }
 
+/// A byte of the call with data that is another, and the fault that the header then has, with its number.
+static FAULTS: [(usize, u8, HeaderFault, u8); 9] = [
+    (0, 0x00, HeaderFault::Version, 2),
+    (1, 0x00, HeaderFault::Kind, 3),
+    (1, 0x09, HeaderFault::Kind, 3),
+    (2, 0x04, HeaderFault::Flags, 4),
+    (3, 0x01, HeaderFault::Reason, 5),
+    (29, 0x09, HeaderFault::Length, 6),
+    (31, 0x01, HeaderFault::Reserved, 7),
+    (2, 0x01, HeaderFault::ShortFragment, 8),
+    (18, 0xff, HeaderFault::FragmentNumber, 9),
+];
+
+/// The fault of the call with data when the byte at that place is another.
+fn fault_with(place: usize, byte: u8) -> Option<HeaderFault> {
+    let mut bytes = ADD_CALL;
+    if place >= bytes.len() {
+        return None;
+    }
+    bytes[place] = byte;
+    read_header(&bytes).err()
+}
+
 #[test]
 fn each_fault_is_named_and_numbered(rt: HostRuntime) {
-    assert!(rt; read_header(&ADD_CALL[..31]).err() == Some(HeaderFault::Short));
-    assert!(rt; HeaderFault::Short.number() == 1);
-    let changes = [
-        (0, 0x00, HeaderFault::Version, 2),
-        (1, 0x00, HeaderFault::Kind, 3),
-        (1, 0x09, HeaderFault::Kind, 3),
-        (2, 0x04, HeaderFault::Flags, 4),
-        (3, 0x01, HeaderFault::Reason, 5),
-        (29, 0x09, HeaderFault::Length, 6),
-        (31, 0x01, HeaderFault::Reserved, 7),
-        (2, 0x01, HeaderFault::ShortFragment, 8),
-        (18, 0xff, HeaderFault::FragmentNumber, 9),
-    ];
-    for (place, byte, fault, number) in changes {
-        let mut bytes = ADD_CALL;
-        assert!(rt; place < 40);
-        bytes[place] = byte;
-        assert!(rt; read_header(&bytes).err() == Some(fault));
-        assert!(rt; fault.number() == number);
+    let short = read_header(&ADD_CALL[..31]).err();
+    assert!(rt; (short, HeaderFault::Short.number()) == (Some(HeaderFault::Short), 1));
+    for (place, byte, fault, number) in FAULTS {
+        assert!(rt; (fault_with(place, byte), fault.number()) == (Some(fault), number));
     }
 }
 

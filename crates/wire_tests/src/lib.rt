@@ -1,7 +1,9 @@
-//! Tests of `item_list`, `lane_checksum`, `ff_io`, `rpc_header`, `fragments`, `udp_frames` and `binder` through their
-//! public calls, in a crate of their own so that those crates aren't proved a second time with them.
+//! Tests of `item_list`, `lane_checksum`, `ff_io`, `rpc_header`, `fragments`, `udp_frames`, `packet_board` and `binder`
+//! through their public calls, in a crate of their own so that those crates aren't proved a second time with them.
 #![tactic(auto)]
 
+#[cfg(test)]
+mod board;
 #[cfg(test)]
 mod exports;
 #[cfg(test)]

@@ -21,19 +21,18 @@ fn sink_of(alloc: Global, fail: &[u64], room: usize) -> Result<MemorySink, Alloc
 fn the_listed_calls_fail(rt: HostRuntime) -> Result<(), Fail> {
     let mut source = source_of(rt.alloc(), b"abcde", &[1, 3])?;
     let mut into = [0u8; 2];
-    assert!(rt; source.read(&mut into) == Err(ReadFailed));
-    assert!(rt; source.read(&mut into) == Ok(2));
-    assert!(rt; into.as_slice() == b"ab".as_slice());
-    assert!(rt; source.read(&mut into) == Err(ReadFailed));
-    assert!(rt; source.left() == b"cde".as_slice());
+    let first = source.read(&mut into);
+    let second = source.read(&mut into);
+    let read = into;
+    let third = source.read(&mut into);
+    assert!(rt; [first, second, third] == [Err(ReadFailed), Ok(2), Err(ReadFailed)]);
+    assert!(rt; [read.as_slice(), source.left()] == [b"ab".as_slice(), b"cde".as_slice()]);
     assert!(rt; source.faults() == 2);
 
     let mut sink = sink_of(rt.alloc(), &[2], 5)?;
-    assert!(rt; sink.write(b"ab") == Ok(2));
-    assert!(rt; sink.write(b"cd") == Err(WriteFailed));
-    assert!(rt; sink.write(b"ef") == Ok(2));
-    assert!(rt; sink.written() == b"abef".as_slice());
-    assert!(rt; sink.faults() == 1);
+    let writes = [sink.write(b"ab"), sink.write(b"cd"), sink.write(b"ef")];
+    assert!(rt; writes == [Ok(2), Err(WriteFailed), Ok(2)]);
+    assert!(rt; (sink.written(), sink.faults()) == (b"abef".as_slice(), 1));
     Ok(())
 }
 
@@ -108,12 +107,13 @@ fn what_the_room_holds_counts_as_written(rt: HostRuntime) -> Result<(), Fail> {
 #[test]
 fn a_sink_takes_no_more_than_its_room(rt: HostRuntime) -> Result<(), Fail> {
     let mut sink = sink_of(rt.alloc(), &[], 5)?;
-    assert!(rt; sink.write(b"abc") == Ok(3));
-    assert!(rt; sink.write(b"def") == Err(WriteFailed));
-    assert!(rt; sink.write(b"de") == Ok(2));
+    let three = sink.write(b"abc");
+    let too_many = sink.write(b"def");
+    let two = sink.write(b"de");
     assert!(rt; sink.written() == b"abcde".as_slice());
-    assert!(rt; sink.write(b"") == Ok(0));
-    assert!(rt; sink.write(b"f") == Err(WriteFailed));
+    let full = [sink.write(b""), sink.write(b"f")];
+    assert!(rt; [three, too_many, two] == [Ok(3), Err(WriteFailed), Ok(2)]);
+    assert!(rt; full == [Ok(0), Err(WriteFailed)]);
     assert!(rt; sink.faults() == 2);
     Ok(())
 }

@@ -1,11 +1,12 @@
 use Rattle.std.proofs.Common.{refl, ap, ◌∙◌, Some}
 use mathlib.Core.Option.{some, none}
 use Rattle.packet_board.specs.Hands.{updated, nothing}
+use Rattle.packet_board.specs.Seats.{view}
 use Rattle.packet_board.proofs.Held.{updated_here, updated_back, if_ok, if_err}
-use Rattle.packet_board.proofs.tests.put.Goals as goal
+use Rattle.wire_tests.proofs.board.put.Goals as goal
 
 pub exchange-requires-clause-law : goal.exchange-requires-clause-law
-exchange-requires-clause-law c = λ ws out hs vs found meets. (c.args.seat.now.token.me.0.notes, refl, tt)
+exchange-requires-clause-law c = λ ws out hs vs found meets. ((view c.args.seat.now).notes, refl, tt)
 
 pub exchange-requires-clause-gives : goal.exchange-requires-clause-gives
 exchange-requires-clause-gives c = let one = c.requires.one in (one.0, ap (λ h. h c.args.number) one.1 ∙ updated_here c.args.number (some (Some one.0)) nothing)

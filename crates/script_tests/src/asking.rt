@@ -102,12 +102,12 @@ fn restart_9(alloc: Global, world: &mut World) -> Result<(), AllocError>
 }
 
 /// Whether processes 8, 1 and 2 of machine 9 are idle.
-fn idle_at_9(world: &World) -> (bool, bool, bool) {
-    (
+fn idle_at_9(world: &World) -> [bool; 3] {
+    [
         world.is_idle(9, 8),
         world.is_idle(9, 1),
         world.is_idle(9, 2),
-    )
+    ]
 }
 
 /// A call that is open at the restart of its client is lost, and a bind isn't. There is no restart in second 1, in which
@@ -115,11 +115,13 @@ fn idle_at_9(world: &World) -> (bool, bool, bool) {
 #[test]
 fn a_restart_loses_the_open_call(rt: HostRuntime) -> Result<(), Fail> {
     let mut world = open_at_9(rt.alloc())?;
-    assert!(rt; idle_at_9(&world) == (false, false, true));
+    let before = idle_at_9(&world);
     played(rt.alloc(), &mut world, &Event::Restart(9))?;
-    assert!(rt; world.counts().lost == 0);
+    let none_lost = world.counts().lost;
     restart_9(rt.alloc(), &mut world)?;
-    assert!(rt; idle_at_9(&world) == (true, true, true));
-    assert!(rt; (world.second(), world.counts().started, world.counts().lost) == (2, 1, 1));
+    let counts = world.counts();
+    assert!(rt; [before, idle_at_9(&world)] == [[false, false, true], [true; 3]]);
+    assert!(rt; [none_lost, counts.started, counts.lost] == [0, 1, 1]);
+    assert!(rt; world.second() == 2);
     Ok(())
 }

@@ -2,8 +2,9 @@ use Rattle.std.proofs.Common.{ap, ◌∙◌, Some, true}
 use mathlib.Core.Option.{some}
 use Rattle.packet_board.specs.Hands.{nothing}
 use Rattle.packet_board.specs.Seats.{held}
-use Rattle.packet_board.proofs.Held.{updated_here, out_one, wrote_one}
-use Rattle.packet_board.proofs.tests.sign.Goals as goal
+use Rattle.packet_board.proofs.Held.{updated_here, out_one}
+use Rattle.wire_tests.proofs.Hands.{wrote_one}
+use Rattle.wire_tests.proofs.board.sign.Goals as goal
 
 pub unstow-buffer-requires-clause-stowed : goal.unstow-buffer-requires-clause-stowed
 unstow-buffer-requires-clause-stowed c = let one = c.requires.one in (one.0, ap (λ h. h c.args.number) one.1 ∙ updated_here c.args.number (some (Some one.0)) nothing)

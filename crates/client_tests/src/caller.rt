@@ -2,7 +2,7 @@
 
 ghost use Rattle.std.specs.Prelude.{◌≤◌};
 
-use crate::{Action, Caller};
+use caller_core::{Action, Caller};
 use fragments::LONG;
 use rpc_header::{Activity, CallId, CallNumber, Export, Header, Kind};
 
@@ -165,9 +165,36 @@ fn packets() -> [Header; 12] {
     ]
 }
 
-/// Whether the packets have these acts at this state, and only those that end a call or a bind leave it.
-fn has_acts(at: At, acts: [Action; 12]) -> bool {
-    let packets = packets();
+const U: Action = Action::Unused;
+
+const REPLY: Action = Action::Last { signal: false };
+
+const SIGNAL: Action = Action::Last { signal: true };
+
+const REFUSED: Action = Action::Refused(2);
+
+const WAITS: Action = Action::Waiting;
+
+const FOUND: Action = Action::Bound(EXPORT);
+
+const UNBOUND: Action = Action::Unbound;
+
+/// What is done about each of the packets at this state.
+fn acts_at(at: At) -> [Action; 12] {
+    match at {
+        At::Idle => [U; 12],
+        At::Sending0 => [piece(1), U, U, U, U, U, U, U, REFUSED, U, U, U],
+        At::Sending1 => [U, last_piece(), U, U, U, U, U, U, REFUSED, U, U, U],
+        At::Sending2 | At::Waiting => [U, U, WAITS, REPLY, SIGNAL, kept(0), U, U, REFUSED, U, U, U],
+        At::Receiving1 => [U, U, U, U, U, U, kept(1), REPLY, REFUSED, U, U, U],
+        At::Receiving2 => [U, U, U, U, U, U, U, U, REFUSED, U, U, REPLY],
+        At::Binding => [U, U, U, U, U, U, U, U, U, FOUND, UNBOUND, U],
+    }
+}
+
+/// Whether the packets have their acts at this state, and only those that end a call or a bind leave it.
+fn has_its_acts(at: At) -> bool {
+    let (packets, acts) = (packets(), acts_at(at));
     for place in 0..12 {
         let mut caller = caller_at(at);
         if caller.on_packet(&packets[place]) != acts[place] {
@@ -187,50 +214,12 @@ fn ends(act: Action) -> bool {
     )
 }
 
-const NONE: Action = Action::Unused;
-
-const REPLY: Action = Action::Last { signal: false };
-
-const SIGNAL: Action = Action::Last { signal: true };
-
-const REFUSED: Action = Action::Refused(2);
-
-const WAITS: Action = Action::Waiting;
-
-const UNBOUND: Action = Action::Unbound;
-
 #[test]
 fn packets_at_each_state(rt: HostRuntime) {
-    let (one, two) = (piece(1), last_piece());
-    let (zero_kept, one_kept) = (kept(0), kept(1));
-    let found = Action::Bound(EXPORT);
-    let acts = [NONE; 12];
-    assert!(rt; has_acts(At::Idle, acts));
-    let acts = [
-        one, NONE, NONE, NONE, NONE, NONE, NONE, NONE, REFUSED, NONE, NONE, NONE,
-    ];
-    assert!(rt; has_acts(At::Sending0, acts));
-    let acts = [
-        NONE, two, NONE, NONE, NONE, NONE, NONE, NONE, REFUSED, NONE, NONE, NONE,
-    ];
-    assert!(rt; has_acts(At::Sending1, acts));
-    let acts = [
-        NONE, NONE, WAITS, REPLY, SIGNAL, zero_kept, NONE, NONE, REFUSED, NONE, NONE, NONE,
-    ];
-    assert!(rt; has_acts(At::Sending2, acts));
-    assert!(rt; has_acts(At::Waiting, acts));
-    let acts = [
-        NONE, NONE, NONE, NONE, NONE, NONE, one_kept, REPLY, REFUSED, NONE, NONE, NONE,
-    ];
-    assert!(rt; has_acts(At::Receiving1, acts));
-    let acts = [
-        NONE, NONE, NONE, NONE, NONE, NONE, NONE, NONE, REFUSED, NONE, NONE, REPLY,
-    ];
-    assert!(rt; has_acts(At::Receiving2, acts));
-    let acts = [
-        NONE, NONE, NONE, NONE, NONE, NONE, NONE, NONE, NONE, found, UNBOUND, NONE,
-    ];
-    assert!(rt; has_acts(At::Binding, acts));
+    assert!(rt; has_its_acts(At::Idle));
+    for at in open_states() {
+        assert!(rt; has_its_acts(at));
+    }
 }
 
 /// The states in which a call or a bind is open.
@@ -246,20 +235,43 @@ fn open_states() -> [At; 7] {
     ]
 }
 
+/// The packets as those of another call.
+fn of_another_call() -> [Header; 12] {
+    packets().map(|mut header| {
+        header.call.number = CallNumber { value: 65535 };
+        header
+    })
+}
+
+/// Whether a caller uses none of these packets.
+fn uses_none(caller: &mut Caller, headers: &[Header]) -> bool {
+    for header in headers {
+        if caller.on_packet(header) != Action::Unused {
+            return false;
+        }
+    }
+    true
+}
+
 #[test]
 fn packets_of_another_call_and_kinds_for_a_server_are_unused(rt: HostRuntime) {
+    let others = of_another_call();
+    let for_a_server = [Kind::Call, Kind::Probe, Kind::Bind].map(|kind| packet(kind, 0));
     for at in open_states() {
         let mut caller = caller_at(at);
-        for header in packets() {
-            let mut other = header;
-            other.call.number = CallNumber { value: 65535 };
-            assert!(rt; caller.on_packet(&other) == Action::Unused);
-        }
-        for kind in [Kind::Call, Kind::Probe, Kind::Bind] {
-            assert!(rt; caller.on_packet(&packet(kind, 0)) == Action::Unused);
-        }
+        assert!(rt; uses_none(&mut caller, &others) && uses_none(&mut caller, &for_a_server));
         assert!(rt; !caller.is_idle());
     }
+}
+
+/// Whether the caller does this so many times, each time at the fourth tick, and is quiet between.
+fn does_again(caller: &mut Caller, times: u8, act: Action) -> bool {
+    for _ in 0..times {
+        if !fourth_tick_is(caller, act) {
+            return false;
+        }
+    }
+    true
 }
 
 /// Whether the caller is quiet for three ticks, and then does this.
@@ -299,14 +311,10 @@ fn sent_again(at: At) -> Action {
 fn eight_transmissions_without_an_answer_fail(rt: HostRuntime) {
     for at in open_states() {
         let mut caller = caller_at(at);
-        if matches!(at, At::Waiting) {
-            assert!(rt; fourth_tick_is(&mut caller, sent_again(at)));
-        }
-        for _ in 0..7 {
-            assert!(rt; fourth_tick_is(&mut caller, sent_again(at)));
-        }
-        assert!(rt; fourth_tick_is(&mut caller, Action::Failed));
-        assert!(rt; caller.is_idle());
+        let times = if matches!(at, At::Waiting) { 8 } else { 7 };
+        let again = does_again(&mut caller, times, sent_again(at));
+        let fails = fourth_tick_is(&mut caller, Action::Failed);
+        assert!(rt; [again, fails, caller.is_idle()] == [true; 3]);
         assert!(rt; caller.on_tick() == Action::Unused);
     }
 }
@@ -314,19 +322,15 @@ fn eight_transmissions_without_an_answer_fail(rt: HostRuntime) {
 #[test]
 fn an_answer_starts_the_count_anew(rt: HostRuntime) {
     let mut caller = caller_at(At::Sending1);
-    for _ in 0..6 {
-        assert!(rt; fourth_tick_is(&mut caller, piece(1)));
-    }
-    assert!(rt; caller.on_packet(&ack(1)) == last_piece());
-    for _ in 0..7 {
-        assert!(rt; fourth_tick_is(&mut caller, sent_again(At::Sending2)));
-    }
-    assert!(rt; caller.on_packet(&ack(2)) == Action::Waiting);
-    for _ in 0..8 {
-        assert!(rt; fourth_tick_is(&mut caller, sent_again(At::Waiting)));
-    }
-    assert!(rt; caller.on_packet(&ack(2)) == Action::Waiting);
-    assert!(rt; fourth_tick_is(&mut caller, sent_again(At::Waiting)));
+    let one_again = does_again(&mut caller, 6, piece(1));
+    let two = caller.on_packet(&ack(1));
+    let two_again = does_again(&mut caller, 7, sent_again(At::Sending2));
+    let waits = caller.on_packet(&ack(2));
+    let probes = does_again(&mut caller, 8, sent_again(At::Waiting));
+    let still_waits = caller.on_packet(&ack(2));
+    let probes_anew = fourth_tick_is(&mut caller, sent_again(At::Waiting));
+    assert!(rt; [one_again, two_again, probes, probes_anew] == [true; 4]);
+    assert!(rt; [two, waits, still_waits] == [last_piece(), WAITS, WAITS]);
 }
 
 /// What a caller does first about a call whose arguments have `len` bytes, and then about a whole result.
@@ -344,10 +348,8 @@ fn starts_send_the_first_piece(rt: HostRuntime) {
         header: packet(Kind::Call, 0),
         piece: Some(0),
     };
-    let short = (sent, REPLY);
-    assert!(rt; start(0) == short && start(1) == short && start(1440) == short);
-    let long = (piece(0), Action::Unused);
-    assert!(rt; start(1441) == long && start(92160) == long);
+    assert!(rt; [start(0), start(1), start(1440)] == [(sent, REPLY); 3]);
+    assert!(rt; [start(1441), start(92160)] == [(piece(0), Action::Unused); 2]);
     let mut caller = Caller::idle(ACTIVITY, 9);
     let sent = Action::Send {
         header: bind(),
@@ -367,8 +369,8 @@ fn the_longest_call_has_64_pieces(rt: HostRuntime) {
         header: packet(Kind::Call, 63),
         piece: Some(63),
     };
-    assert!(rt; caller.on_packet(&ack(62)) == last);
-    assert!(rt; caller.on_packet(&ack(63)) == Action::Waiting);
+    let acts = [caller.on_packet(&ack(62)), caller.on_packet(&ack(63))];
+    assert!(rt; acts == [last, Action::Waiting]);
 }
 
 #[test]
@@ -376,9 +378,10 @@ fn a_long_reply_begins_by_its_first_piece_alone(rt: HostRuntime) {
     for at in open_states() {
         let caller = caller_at(at);
         let awaits = matches!(at, At::Sending2 | At::Waiting);
-        assert!(rt; caller.begins_long(&result(0, false)) == awaits);
-        assert!(rt; !caller.begins_long(&result(0, true)));
-        assert!(rt; !caller.begins_long(&result(1, false)));
+        let first = caller.begins_long(&result(0, false));
+        let whole = caller.begins_long(&result(0, true));
+        let second = caller.begins_long(&result(1, false));
+        assert!(rt; [first, whole, second] == [awaits, false, false]);
     }
 }
 

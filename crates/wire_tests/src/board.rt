@@ -4,7 +4,7 @@ ghost use Rattle.packet_board.specs.Words.{cell_count};
 ghost use Rattle.packet_board.specs.Hands.{HoldsNothing, HoldsOne};
 ghost use Rattle.packet_board.specs.Seats.{held, layout_of, IsSeatOf, IsSameSeat};
 
-use crate::{Board, FreeWords, Layout, Seat, StillOut, Word};
+use packet_board::{Board, Buffer, FreeWords, Layout, Seat, StillOut, Word};
 use std::marker::Brand;
 use std::test::Fail;
 
@@ -112,6 +112,11 @@ fn sign(board: &Board<FreeWords>, seat: &mut Seat<FreeWords>, number: u16, from:
     board.stow(seat, number, buffer);
 }
 
+/// The room of a buffer, the length of its data, and its sender.
+fn measures(buffer: &Buffer) -> (usize, usize, u8) {
+    (buffer.bytes.len(), buffer.len, buffer.from)
+}
+
 #[test]
 fn a_board_with_a_seat_out_does_not_close(rt: HostRuntime) -> Result<(), Fail> {
     let (board, mut seat) = Board::<FreeWords>::make(rt.alloc(), LAYOUT)?;
@@ -134,8 +139,7 @@ fn a_board_with_a_seat_out_does_not_close(rt: HostRuntime) -> Result<(), Fail> {
     let [small, long] = closed.buffers.as_slice() else {
         panic!(rt; "two buffers")
     };
-    assert!(rt; (small.bytes.len(), small.len, small.from) == (1514, 0, 1));
-    assert!(rt; (long.bytes.len(), long.len, long.from) == (92_160, 0, 1));
+    assert!(rt; [measures(small), measures(long)] == [(1514, 0, 1), (92_160, 0, 1)]);
     Ok(())
 }
 
@@ -190,7 +194,7 @@ fn a_buffer_comes_back_as_it_was_stowed(rt: HostRuntime) -> Result<(), Fail> {
     let [small, long] = closed.buffers.as_slice() else {
         panic!(rt; "two buffers")
     };
-    assert!(rt; (small.from, small.signal) == (1, false));
-    assert!(rt; (long.from, long.signal) == (254, true));
+    let signed = [(small.from, small.signal), (long.from, long.signal)];
+    assert!(rt; signed == [(1, false), (254, true)]);
     Ok(())
 }
