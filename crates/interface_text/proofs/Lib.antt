@@ -11,5 +11,6 @@ pub mod Residue
 pub mod Rows
 pub mod Settling
 pub mod Shaping
+pub mod Stepping
 pub mod Taking
 pub mod Telling

@@ -1,9 +1,14 @@
 //! Types that wait for their parts.
-ghost use Rattle.std.specs.Prelude.{◌≡◌, ◌==◌, ◌∷◌, [], length, MatchOption, OnOk};
-ghost use Rattle.interface_text.specs.Views.{form_of, forms_of};
+ghost use Rattle.std.specs.Prelude.{◌≡◌, ◌==◌, ◌++◌, ◌∷◌, [], length, not, MatchOption, OnOk, IfOk};
+ghost use Rattle.std.specs.Bool.{OnTrue};
+ghost use Rattle.interface_tokens.specs.Names.{is_among};
+ghost use Rattle.interface_text.specs.TypeRules.{one_more};
+ghost use Rattle.interface_text.specs.Views.{form_of, forms_of, group_of};
 
+use crate::limits::one_more;
 use crate::names::NameSet;
 use crate::tree::Tree;
+use interface_tokens::Ident;
 use std::alloc::{AllocError, Global};
 use std::rc::Rc;
 
@@ -16,6 +21,25 @@ pub(crate) struct Fields {
     pub fresh: u32,
     /// How often each part of the record counts.
     pub times: u32,
+}
+
+impl Fields {
+    /// Adds a name to the last group, and says whether it wasn't there.
+    pub(crate) fn add(&mut self, name: Ident) -> Result<bool, AllocError>
+        ensures added { IfOk result (λ added. added ≡ not (is_among name (group_of self.old).names)) }
+        ensures group { IfOk result (λ added. OnTrue added (group_of self.new ≡ record (group_of self.old) { names = (group_of self.old).names ++ name ∷ []; fresh = one_more (group_of self.old).fresh })) }
+    {
+        let added = self.names.add(name)?;
+        self.fresh = one_more(self.fresh);
+        Ok(added)
+    }
+
+    /// The types of the fields.
+    pub(crate) fn into_parts(self) -> Vec<Rc<Tree>>
+        ensures { result ≡ self.parts }
+    {
+        self.parts
+    }
 }
 
 /// A type that waits for its parts.

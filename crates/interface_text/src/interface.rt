@@ -5,7 +5,7 @@ use interface_tokens::Ident;
 use item_list::Items;
 
 /// The exceptions and procedures of an interface.
-#[derive(Debug, Drop)]
+#[derive(Drop)]
 pub struct Interface {
     /// Its own name, which is in no set of names.
     pub name: Ident,
@@ -16,7 +16,7 @@ pub struct Interface {
 }
 
 /// A procedure of an interface.
-#[derive(Debug, Drop)]
+#[derive(Drop)]
 pub struct Procedure {
     /// Its name.
     pub name: Ident,

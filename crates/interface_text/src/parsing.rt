@@ -37,13 +37,20 @@ fn read(alloc: Global, text: &[u8]) -> Result<Interface, Stop>
     ensures { Gives interface_view result (texts.read_text text.now) }
 {
     let tokens = tokens_of(alloc, text)?;
-    let (name, rest) = match first_line(&tokens) {
-        Ok(line) => line,
-        Err(stop) => return Err(stop),
-    };
-    let mut reader = Reader::new(alloc, name);
-    reader.take_all(alloc, rest)?;
-    reader.finish(tokens.ending, tokens.end)
+    read_tokens(alloc, &tokens)
+}
+
+fn read_tokens(alloc: Global, tokens: &Tokens) -> Result<Interface, Stop>
+    ensures { Gives interface_view result (texts.read_tokens (tokens_view tokens.now)) }
+{
+    match first_line(tokens) {
+        Ok((name, spots)) => {
+            let mut reader = Reader::new(alloc, name);
+            reader.take_all(alloc, spots)?;
+            reader.finish(tokens.ending, tokens.end)
+        }
+        Err(stop) => Err(stop),
+    }
 }
 
 /// The name of the interface, and the tokens behind `INTERFACE name ;`.

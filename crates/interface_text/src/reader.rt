@@ -88,19 +88,33 @@ impl Reader {
     }
 
     /// Takes the end of the tokens.
-    #[tactic(auto, unfolding(crate::specs::Rules::finish))]
     pub(crate) fn finish(self, ending: Ending, place: Place) -> Result<Interface, Stop>
         ensures { Gives interface_view result (rules.finish (reading_of self) ending place) }
+    {
+        self.check_end(ending, place)?;
+        Ok(self.into_interface())
+    }
+
+    /// The fault of tokens that end here, where they may not.
+    #[tactic(auto, unfolding(crate::specs::Rules::finish))]
+    fn check_end(&self, ending: Ending, place: Place) -> Result<(), Stop>
+        ensures { Gives (λ _. rules.interface_of (reading_of self.now)) result (rules.finish (reading_of self.now) ending place) }
     {
         match (ending, self.expect) {
             (Ending::Character, _) => Err(self.types.stop(place, Cause::Character)),
             (Ending::OpenComment, _) => Err(self.types.stop(place, Cause::OpenComment)),
-            (Ending::Text, Expect::Top(AtTop::Nothing)) => Ok(Interface {
-                name: self.name,
-                exceptions: Items::new(self.exceptions),
-                procedures: Items::new(self.procedures),
-            }),
+            (Ending::Text, Expect::Top(AtTop::Nothing)) => Ok(()),
             (Ending::Text, _) => Err(self.types.stop(place, Cause::Expected)),
+        }
+    }
+
+    fn into_interface(self) -> Interface
+        ensures { interface_view result ≡ rules.interface_of (reading_of self) }
+    {
+        Interface {
+            name: self.name,
+            exceptions: Items::new(self.exceptions),
+            procedures: Items::new(self.procedures),
         }
     }
 

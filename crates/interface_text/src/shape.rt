@@ -1,7 +1,7 @@
 //! Types of an interface, with their names resolved.
 
 /// A type of an interface.
-#[derive(Debug, Drop)]
+#[derive(Drop)]
 pub enum Shape {
     /// BOOLEAN.
     Bool,

@@ -38,7 +38,6 @@ impl Tree {
 
 /// The shape that a tree is, with everything shared copied.
 #[cycle(shapes)]
-#[tactic(auto, using(crate::proofs::Shaping::kind_fields, crate::proofs::Shaping::tree_fields))]
 pub(crate) fn shape_of(alloc: Global, tree: &Tree) -> Result<Shape, AllocError>
     ensures { IfOk result (λ shape. kind_of shape ≡ kind_of_tree tree.now) }
 {

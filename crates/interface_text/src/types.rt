@@ -1,13 +1,13 @@
 //! The type that is being read.
-ghost use Rattle.std.specs.Prelude.{◌≡◌, ◌≤◌, ◌<◌, ◌+◌, ◌++◌, MatchOption, OnOk, map, replicate, None, IfOk, option_map, option_copied};
-ghost use Rattle.interface_tokens.specs.Outcome.{Fails, Gives, stopped};
+ghost use Rattle.std.specs.Prelude.{◌≡◌, ◌≤◌, ◌<◌, ◌+◌, ◌++◌, ◌∷◌, MatchOption, OnOk, map, replicate, None, IfOk, option_map, option_copied};
+ghost use Rattle.interface_tokens.specs.Outcome.{Fails, Gives, Outcome, stopped};
 ghost use Rattle.interface_text.specs.Trees.{part_kind};
 ghost use Rattle.interface_text.specs.Senses.{known_of, senses_of};
 ghost use Rattle.interface_text.specs.TypeRules as rules;
-ghost use Rattle.interface_text.specs.Views.{typing_of, settling_of, group_of};
+ghost use Rattle.interface_text.specs.Views.{typing_of, settling_of, group_of, forms_of};
 
 use crate::frames::{Fields, Frame, Frames};
-use crate::limits::{MAX_PARTS, counted, is_length, level_of, one_more};
+use crate::limits::{MAX_PARTS, counted, is_length, level_of};
 use crate::names::{Known, NameSet, Names};
 use crate::tree::Tree;
 use crate::values::{Added, Values};
@@ -111,42 +111,18 @@ impl Types {
         ensures { Gives (λ at. (typing_of self.new, at)) result (rules.step (typing_of self.old) step place) }
     {
         match step {
-            TypeStep::BeginValues => {
-                self.begin_values(alloc, place)?;
-                Ok(AtType::Value)
-            }
-            TypeStep::Value(name) => {
-                self.add_value(name, place)?;
-                Ok(AtType::MoreValues)
-            }
-            TypeStep::BeginArray => {
-                self.begin(place, 1, 1)?;
-                Ok(AtType::Length)
-            }
-            TypeStep::Length(number) => {
-                self.set_length(number, place)?;
-                Ok(AtType::Of)
-            }
+            TypeStep::BeginValues => expecting(self.begin_values(alloc, place), AtType::Value),
+            TypeStep::Value(name) => expecting(self.add_value(name, place), AtType::MoreValues),
+            TypeStep::BeginArray => expecting(self.begin(place, 1, 1), AtType::Length),
+            TypeStep::Length(number) => expecting(self.set_length(number, place), AtType::Of),
             TypeStep::OpenArray => {
                 self.frames.push(Frame::Open(None))?;
                 Ok(AtType::Begin)
             }
-            TypeStep::BeginRecord => {
-                self.begin_record(alloc, place)?;
-                Ok(AtType::Field)
-            }
-            TypeStep::Field(name) => {
-                self.add_field(name, place)?;
-                Ok(AtType::MoreFields)
-            }
-            TypeStep::TypeFields => {
-                self.type_fields(place)?;
-                Ok(AtType::Begin)
-            }
-            TypeStep::NextFields => {
-                self.next_fields(place)?;
-                Ok(AtType::Field)
-            }
+            TypeStep::BeginRecord => expecting(self.begin_record(alloc, place), AtType::Field),
+            TypeStep::Field(name) => expecting(self.add_field(name, place), AtType::MoreFields),
+            TypeStep::TypeFields => expecting(self.type_fields(place), AtType::Begin),
+            TypeStep::NextFields => expecting(self.next_fields(place), AtType::Field),
         }
     }
 
@@ -304,10 +280,9 @@ impl Types {
         ensures { Gives (λ _. typing_of self.new) result (rules.add_field (typing_of self.old) name place) }
     {
         let mut fields = self.record(place)?;
-        if !fields.names.add(name)? {
+        if !fields.add(name)? {
             return Err(self.stop(place, Cause::Duplicate));
         }
-        fields.fresh = one_more(fields.fresh);
         self.frames.push(Frame::Fields(fields))?;
         Ok(())
     }
@@ -336,14 +311,14 @@ impl Types {
     fn end_record(&mut self, alloc: Global, place: Place) -> Result<Settled, Stop>
         ensures { Gives (λ s. (typing_of self.new, settling_of s)) result (rules.end_record (typing_of self.old) place) }
     {
-        let fields = self.record(place)?;
-        let tree = Rc::new(alloc, Tree::Fields(fields.parts))?;
+        let parts = self.record(place)?.into_parts();
+        let tree = Rc::new(alloc, Tree::Fields(parts))?;
         let settled = self.settle(alloc, tree)?;
         Ok(settled)
     }
 
     /// A part is read. It calls itself at most once for each type round it.
-    #[tactic(auto, using(crate::proofs::Settling::settled_whole, crate::proofs::Settling::settled_array, crate::proofs::Settling::settled_open, crate::proofs::Settling::settled_group))]
+    #[tactic(auto, using(crate::proofs::Settling::settled_whole, crate::proofs::Settling::settled_array, crate::proofs::Settling::settled_open))]
     fn settle(&mut self, alloc: Global, tree: Rc<Tree>) -> Result<Settled, AllocError>
         ensures { IfOk result (λ s. (typing_of self.new, settling_of s) ≡ rules.settled (typing_of self.old) (part_kind tree)) }
     {
@@ -358,14 +333,31 @@ impl Types {
                 self.frames.push(Frame::Open(Some(tree)))?;
                 Ok(Settled::Next(Expect::Type(AtType::Upto)))
             }
-            Some(Frame::Fields(mut fields)) => {
-                push_shared(&mut fields.parts, &tree, fields.fresh)?;
-                self.times = fields.times;
-                self.frames.push(Frame::Fields(fields))?;
+            Some(Frame::Fields(fields)) => {
+                self.settle_in(fields, &tree)?;
                 Ok(Settled::Next(Expect::Type(AtType::EndRecord)))
             }
         }
     }
+
+    /// Each name of the last group of these fields has this type.
+    fn settle_in(&mut self, mut fields: Fields, tree: &Rc<Tree>) -> Result<(), AllocError>
+        ensures { OnOk result ((typing_of self.new, rules.next (Expect.Type AtType.EndRecord)) ≡ rules.settled_in (typing_of self.old) (rules.fields_form (group_of fields) ∷ forms_of self.old.frames) (part_kind tree.now)) }
+    {
+        push_shared(&mut fields.parts, tree, fields.fresh)?;
+        self.times = fields.times;
+        self.frames.push(Frame::Fields(fields))?;
+        Ok(())
+    }
+}
+
+/// What is expected behind a step, where it went well.
+#[tactic(auto, using(crate::proofs::Stepping::expects, crate::proofs::Stepping::fails))]
+fn expecting(done: Result<(), Stop>, at: AtType) -> Result<AtType, Stop>
+    ensures { (typing : rules.Typing) (read : Outcome rules.Typing) → Gives (λ _. typing) done read → Gives (λ next. (typing, next)) result (rules.then_expect read at) }
+{
+    done?;
+    Ok(at)
 }
 
 /// Pushes so many times what is shared.
