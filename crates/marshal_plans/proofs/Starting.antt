@@ -1,5 +1,5 @@
 -- The beginning of a value, as it is written and as it is read.
-use Rattle.std.proofs.Common.{◌≡◌, ℕ, ℤ, List, [], ◌++◌, Option, Some, None, Result, Ok, Err, refl, ap, sym, ◌∙◌, subst, arith}
+use Rattle.std.proofs.Common.{◌≡◌, ℕ, ℤ, List, [], ◌++◌, Option, Some, None, Ok, Err, refl, ap, sym, ◌∙◌, subst, arith}
 use Rattle.std.specs.Borrow.{Bor}
 use Rattle.marshal_plans.specs.declared.basic.Basic.{Basic}
 use Rattle.marshal_plans.specs.declared.basic.Basic.TheVariants.{Byte}
@@ -17,7 +17,7 @@ use Rattle.marshal_plans.specs.Data.{Datum, Data, plain, group, no_data, datum_t
 use Rattle.marshal_plans.specs.Encoding.{enc, enc_all, each, each_of, joined, spelled, count_code}
 use Rattle.marshal_plans.specs.Forms.{Form, number, array, record_of}
 use Rattle.marshal_plans.specs.Lefts.{all_of, elements, IsLeft}
-use Rattle.marshal_plans.specs.Puts.{Started, Headed, whole}
+use Rattle.marshal_plans.specs.Puts.{Started, Headed}
 use Rattle.marshal_plans.specs.Steps.{IsStep}
 use Rattle.marshal_plans.specs.Writing.{Puts}
 use Rattle.marshal_plans.proofs.Placing.{wrote_nothing, wrote_more, joined_empty}
@@ -28,6 +28,15 @@ each_counted f no_data = refl
 each_counted f (datum_then d ds) = ap (joined (f d)) (each_counted f ds)
 
 module _ (f : Form) (old mid new : List ℕ) (at place : ℕ) where
+  pub start_number : (b : Basic) (n : ℤ) → IsStep f (step.Item b) → Puts old new at (Ok place) (spelled (width b) (code_of b n))
+      → Started f (plain n) old new at (Ok (None, place))
+  start_number b n is p = go f is
+    where
+      go : (f : Form) → IsStep f (step.Item b) → Started f (plain n) old new at (Ok (None, place))
+      go (number c) is = (p.0, ap (λ (x : Basic). spelled (width x) (code_of x n)) is ∙ p.1, p.2)
+      go (array x g) is = absurd is
+      go (record_of fs) is = absurd is
+
   pub start_record : (parts : Bor (List Instruction)) (inner : Unput) (ds : Data) → IsStep f (step.Record parts) → inner.left ≡ Fields parts
       → cursor_data inner.values ≡ ds → Started f (group ds) old old at (Ok (Some inner, at))
   start_record parts inner ds is left are = go f is
@@ -81,6 +90,11 @@ module _ (f : Form) (old mid new : List ℕ) (at place : ℕ) where
       go (record_of fs) is = absurd is
 
 -- what is refused
+pub wrong_number : (f : Form) (b : Basic) (n : ℤ) → IsStep f (step.Item b) → spelled (width b) (code_of b n) ≡ None → enc f (plain n) ≡ None
+wrong_number (number c) b n is wrong = ap (λ (x : Basic). spelled (width x) (code_of x n)) is ∙ wrong
+wrong_number (array x g) b n is wrong = absurd is
+wrong_number (record_of fs) b n is wrong = absurd is
+
 pub wrong_count : (f : Form) (x : Extent) (element : Bor (List Instruction)) (ds : Data) → IsStep f (step.Array x element) → count_code x (count ds) ≡ None
     → enc f (group ds) ≡ None
 wrong_count (number c) x element ds is wrong = absurd is
@@ -119,32 +133,7 @@ no_number (number c) b ds is = refl
 no_number (array x g) b ds is = absurd is
 no_number (record_of fs) b ds is = absurd is
 
--- a group that is an array of bytes is written where its bytes are, and refused where its count is
-pub bytes_put : (f : Form) (x : Extent) (ds : Data) (old mid new : List ℕ) (at place n : ℕ) (r : Result ℕ PutFault) → IsStep f (step.Bytes x)
-    → Headed (count ds) (count_code x (count ds)) old mid at (Ok (n, place)) → Puts mid new place r (each (enc (number Byte)) ds)
-    → Puts old new at r (enc f (group ds))
-bytes_put f x ds old mid new at place n (Ok end) is head p = start_bytes f old mid new at place x n ds end is head p
-bytes_put f x ds old mid new at place n (Err Shape) is head p = wrong_bytes f x ds is p
-bytes_put f x ds old mid new at place n (Err Room) is head p = absurd p
-
-pub bytes_refused : (f : Form) (x : Extent) (ds : Data) (old new : List ℕ) (at : ℕ) (e : PutFault) → IsStep f (step.Bytes x)
-    → Headed (count ds) (count_code x (count ds)) old new at (Err e) → Puts old new at (Err e) (enc f (group ds))
-bytes_refused f x ds old new at Shape is head = wrong_byte_count f x ds is head
-bytes_refused f x ds old new at Room is head = absurd head
-
-pub array_refused : (f : Form) (x : Extent) (element : Bor (List Instruction)) (ds : Data) (old new : List ℕ) (at : ℕ) (e : PutFault)
-    → IsStep f (step.Array x element) → Headed (count ds) (count_code x (count ds)) old new at (Err e) → Started f (group ds) old new at (Err e)
-array_refused f x element ds old new at Shape is head = wrong_count f x element ds is head
-array_refused f x element ds old new at Room is head = absurd head
-
--- a whole value is begun with all of it
-pub started_whole : (f : Form) (d : Datum) (old new : List ℕ) (at : ℕ) (r : Result ℕ PutFault) → Puts old new at r (enc f d)
-    → Started f d old new at (whole r)
-started_whole f d old new at (Ok next) p = p
-started_whole f d old new at (Err Shape) p = p
-started_whole f d old new at (Err Room) p = p
-
-pub number_code : (f : Form) (b : Basic) (n : ℤ) → IsStep f (step.Item b) → spelled (width b) (code_of b n) ≡ enc f (plain n)
-number_code (number c) b n is = sym (ap (λ (x : Basic). spelled (width x) (code_of x n)) is)
-number_code (array x g) b n is = absurd is
-number_code (record_of fs) b n is = absurd is
+pub bytes_refused : (f : Form) (x : Extent) (ds : Data) (old mid new : List ℕ) (at place : ℕ) (e : PutFault) → IsStep f (step.Bytes x)
+    → Puts mid new place (Err e) (each (enc (number Byte)) ds) → Started f (group ds) old new at (Err e)
+bytes_refused f x ds old mid new at place Shape is p = wrong_bytes f x ds is p
+bytes_refused f x ds old mid new at place Room is p = absurd p

@@ -49,11 +49,6 @@ Started f d old new at (Ok (Some inner, next)) =
 Started f d old new at (Err Shape) = enc f d ≡ None
 Started f d old new at (Err Room) = ⊥
 
--- what was written, where it is a whole value
-abbrev pub whole : Result ℕ PutFault → Result (Option Unput × ℕ) PutFault
-whole (Ok next) = Ok (None, next)
-whole (Err e) = Err e
-
 -- what stands before the elements of an array is written, and their number is told
 abbrev pub Headed : ℕ → Option (List ℕ) → List ℕ → List ℕ → ℕ → Result (ℕ × ℕ) PutFault → Type 0
 Headed count code old new at (Ok r) = (r.0 ≡ count) × ((bytes : List ℕ) × (code ≡ Some bytes) × Wrote old new at r.1 bytes)

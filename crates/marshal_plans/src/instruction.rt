@@ -12,7 +12,7 @@ pub enum Extent {
 }
 
 /// A step of a plan.
-#[derive(Clone, Copy, PartialEq, Eq, Debug)]
+#[derive(Clone, Copy, PartialEq, Eq)]
 pub enum Instruction {
     /// A number.
     Item(Basic),

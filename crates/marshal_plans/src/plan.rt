@@ -5,7 +5,7 @@ use item_list::Items;
 use std::marker::Model;
 
 /// The instructions of the types of some values, in a flat list.
-#[derive(Debug, Drop)]
+#[derive(Drop)]
 pub struct Plan {
     instructions: Items<Instruction>,
 }
@@ -44,7 +44,7 @@ impl Plan {
 }
 
 /// The plans of a procedure.
-#[derive(Debug, Drop)]
+#[derive(Drop)]
 pub struct PlanPair {
     /// Of what a call carries to the server.
     pub arguments: Plan,
@@ -53,7 +53,7 @@ pub struct PlanPair {
 }
 
 /// The plans of an interface.
-#[derive(Debug, Drop)]
+#[derive(Drop)]
 pub struct Plans {
     /// One pair for each procedure, in the order of the interface.
     pub procedures: Items<PlanPair>,

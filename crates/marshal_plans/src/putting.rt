@@ -1,14 +1,13 @@
 //! The writing of values by a plan.
 ghost use Rattle.std.specs.Prelude.{◌≡◌, ◌++◌, ◌≤◌, ◌^◌, ◌-◌, ℕ, max, List, length, drop, IfOk, IfSome, Some};
 ghost use Rattle.marshal_plans.specs.declared.basic.Basic.TheVariants.{Byte};
-ghost use Rattle.marshal_plans.specs.declared.step.Step.TheVariants as step;
 ghost use Rattle.marshal_plans.specs.Cursors.{cursor_data, taken_datum};
-ghost use Rattle.marshal_plans.specs.Data.{behind_bytes, group, count, datum_of, data_of};
+ghost use Rattle.marshal_plans.specs.Data.{behind_bytes, count, datum_of, data_of};
 ghost use Rattle.marshal_plans.specs.Encoding.{enc, enc_all, each, count_code};
 ghost use Rattle.marshal_plans.specs.Forms.{Form, Forms, number};
 ghost use Rattle.marshal_plans.specs.Lefts.{Todo, IsLeft, left_bound};
 ghost use Rattle.marshal_plans.specs.Plan.{plans, IsPlan};
-ghost use Rattle.marshal_plans.specs.Puts.{Turned, Started, Headed, Falls, whole};
+ghost use Rattle.marshal_plans.specs.Puts.{Turned, Started, Headed, Falls};
 ghost use Rattle.marshal_plans.specs.Steps.{IsStep, parts_len};
 ghost use Rattle.marshal_plans.specs.Writing.{Puts, put_of};
 
@@ -127,56 +126,22 @@ fn put_step<'a>(
     ensures bound { IfOk result (λ r. IfSome r.0 (λ inner. left_bound inner.left ≤ max (2 ^ 32 - 1) (parts_len step.entry))) }
 {
     match (step, value) {
-        (Step::Item(basic), Taken::Number(n)) => whole(put_number(into, at, basic, n)),
-        (Step::Bytes(extent), Taken::Group(values)) => whole(put_byte_array(
-            extent, values, into, at,
-        )),
-        (Step::Array(extent, element), Taken::Group(values)) => put_array(
-            extent, element, values, into, at,
-        ),
+        (Step::Item(basic), Taken::Number(n)) => Ok((None, put_number(into, at, basic, n)?)),
+        (Step::Bytes(extent), Taken::Group(values)) => {
+            let (_, next) = put_head(extent, values, into, at)?;
+            Ok((None, put_bytes(values.bytes, values.others, into, next)?))
+        }
+        (Step::Array(extent, element), Taken::Group(values)) => {
+            let (count, next) = put_head(extent, values, into, at)?;
+            let left = Left::Elements(count, element);
+            Ok((Some(Unput { left, values }), next))
+        }
         (Step::Record(parts), Taken::Group(values)) => {
             let left = Left::Fields(parts);
             Ok((Some(Unput { left, values }), at))
         }
         _ => Err(PutFault::Shape),
     }
-}
-
-/// What was written, where it is a whole value.
-fn whole<'a>(written: Result<usize, PutFault>) -> Result<(Option<Unput<'a>>, usize), PutFault>
-    ensures { result ≡ whole written }
-{
-    Ok((None, written?))
-}
-
-/// Writes a group that is an array of bytes.
-fn put_byte_array(
-    extent: Extent,
-    values: Cursor,
-    into: &mut [u8],
-    at: usize,
-) -> Result<usize, PutFault>
-    ensures { (f : Form) → IsStep f (step.Bytes extent) → Puts into.old into.new at result (enc f (group (cursor_data values.entry))) }
-{
-    let (_, next) = put_head(extent, values, into, at)?;
-    put_bytes(values.bytes, values.others, into, next)
-}
-
-/// Writes what stands before the elements of another array, and gives these.
-fn put_array<'a>(
-    extent: Extent,
-    element: &'a [Instruction],
-    values: Cursor<'a>,
-    into: &mut [u8],
-    at: usize,
-) -> Result<(Option<Unput<'a>>, usize), PutFault>
-    ensures started { (f : Form) → IsStep f (step.Array extent element.entry)
-        → Started f (group (cursor_data values.entry)) into.old into.new at result }
-    ensures bound { IfOk result (λ r. IfSome r.0 (λ inner. left_bound inner.left ≤ max (2 ^ 32 - 1) (length element.now))) }
-{
-    let (count, next) = put_head(extent, values, into, at)?;
-    let left = Left::Elements(count, element);
-    Ok((Some(Unput { left, values }), next))
 }
 
 /// Writes what stands before the elements of an array, and tells how many they are.

@@ -11,11 +11,11 @@ impl Display for Basic {
 
     fn fmt<W: fmt::Write>(&self, f: &mut Formatter<W>) -> fmt::Result {
         match self {
-            Basic::Bool => write!(f, "bool"),
-            Basic::Byte => write!(f, "u8"),
-            Basic::Cardinal => write!(f, "u32"),
-            Basic::Integer => write!(f, "i32"),
-            Basic::LongCard => write!(f, "u64"),
+            Basic::Bool => f.write_str("bool"),
+            Basic::Byte => f.write_str("u8"),
+            Basic::Cardinal => f.write_str("u32"),
+            Basic::Integer => f.write_str("i32"),
+            Basic::LongCard => f.write_str("u64"),
             Basic::Choice(count) => write!(f, "enum {count}"),
         }
     }
@@ -31,7 +31,7 @@ impl Display for Instruction {
             Instruction::Bytes(Extent::UpTo(n)) => write!(f, "openbytes {n}"),
             Instruction::Loop(Extent::Exactly(n), _) => write!(f, "loop {n}"),
             Instruction::Loop(Extent::UpTo(n), _) => write!(f, "open {n}"),
-            Instruction::Next => write!(f, "next"),
+            Instruction::Next => f.write_str("next"),
             Instruction::Record(_) | Instruction::End => Ok(()),
         }
     }

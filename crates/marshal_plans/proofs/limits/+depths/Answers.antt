@@ -1,4 +1,4 @@
-use Rattle.std.proofs.Common.{◌∙◌, ◌+◌, ◌≤◌, ℕ, List, ap, map, sym, subst, IsTrue, ◌↔◌}
+use Rattle.std.proofs.Common.{◌∙◌, ◌+◌, List, ap, map, sym}
 use Rattle.interface_text.specs.declared.shape.Shape.{Shape}
 use Rattle.interface_text.specs.Depths.{depth, deepest}
 use Rattle.interface_text.specs.Kinds.{kind_of, row}

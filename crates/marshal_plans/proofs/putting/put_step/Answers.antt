@@ -1,39 +1,43 @@
-use Rattle.std.proofs.Common.{rules, ℕ, List, Option, Some, Ok, sym, subst, refl}
+use Rattle.std.proofs.Common.{Some, None, Ok, Err, sym, subst, refl}
+use Rattle.std.proofs.lemmas.Result.{err_from_is_err_and}
 use Rattle.marshal_plans.specs.declared.cursor.Taken.{Taken}
-use Rattle.marshal_plans.specs.declared.levels.Left.TheVariants.{Fields}
+use Rattle.marshal_plans.specs.declared.levels.Left.TheVariants.{Fields, Elements}
 use Rattle.marshal_plans.specs.declared.putting.Unput.{Unput}
-use Rattle.marshal_plans.specs.Basics.{width, code_of}
-use Rattle.marshal_plans.specs.Encoding.{spelled}
 use Rattle.marshal_plans.specs.Cursors.{cursor_data, taken_datum}
-use Rattle.marshal_plans.specs.Data.{plain, group}
 use Rattle.marshal_plans.specs.Puts.{Started}
 use Rattle.marshal_plans.specs.Steps.{IsStep}
-use Rattle.marshal_plans.specs.Writing.{Puts}
-use Rattle.marshal_plans.proofs.Starting.{start_record, started_whole, number_code}
+use Rattle.marshal_plans.proofs.Starting.{start_bytes, start_array, start_record, bytes_refused}
 use Rattle.marshal_plans.proofs.putting.put_step.Goals as goal
 
-pub returns-in-Item-Number-clause-started : goal.returns-in-Item-Number-clause-started
-returns-in-Item-Number-clause-started c = λ f is.
+pub returns-in_err-put_bytes-in-Bytes-Group-clause-started : goal.returns-in_err-put_bytes-in-Bytes-Group-clause-started
+returns-in_err-put_bytes-in-Bytes-Group-clause-started c = λ f is.
+    let p = err_from_is_err_and c.from_residual-in_err-put_bytes-in-Bytes-Group.result c.from_residual-in_err-put_bytes-in-Bytes-Group.ensures.1 in
     let old = c.args.into.now in
-    let new = c.put_number.new.into in
-    let wrote : Puts old new c.args.at c.put_number.result (spelled (width c.in-Item-Number.basic) (code_of c.in-Item-Number.basic c.in-Item-Number.n)) = search rules in
-    let code = number_code f c.in-Item-Number.basic c.in-Item-Number.n (subst (IsStep f) c.in-Item-Number.is-0 is) in
-    subst (λ (v : Taken). Started f (taken_datum v) old new c.args.at c.whole.result) (sym c.in-Item-Number.is-1)
-    (rw c.whole.ensures (started_whole f (plain c.in-Item-Number.n) old new c.args.at c.put_number.result
-    (subst (λ (x : Option (List ℕ)). Puts old new c.args.at c.put_number.result x) code wrote)))
+    let new = c.put_bytes.new.into in
+    let e = c.in_err-put_bytes-in-Bytes-Group.field-0.0 in
+    rw (p.1, p.2) (subst (λ (v : Taken). Started f (taken_datum v) old new c.args.at (Err e)) (sym c.in-Bytes-Group.is-1)
+    (bytes_refused f c.in-Bytes-Group.extent (cursor_data c.in-Bytes-Group.values) old c.put_head.new.into new c.args.at c.in_ok-next-in-Bytes-Group.next e
+    (subst (IsStep f) c.in-Bytes-Group.is-0 is) c.in_err-put_bytes-in-Bytes-Group.ensures))
 
-pub returns-in-Bytes-Group-clause-started : goal.returns-in-Bytes-Group-clause-started
-returns-in-Bytes-Group-clause-started c = λ f is.
+pub returns-in_ok-put_bytes-in-Bytes-Group-clause-started : goal.returns-in_ok-put_bytes-in-Bytes-Group-clause-started
+returns-in_ok-put_bytes-in-Bytes-Group-clause-started c = λ f is.
     let old = c.args.into.now in
-    let new = c.put_byte_array.new.into in
-    subst (λ (v : Taken). Started f (taken_datum v) old new c.args.at c.whole-in-Bytes-Group.result) (sym c.in-Bytes-Group.is-1)
-    (rw c.whole-in-Bytes-Group.ensures (started_whole f (group (cursor_data c.in-Bytes-Group.values)) old new c.args.at c.put_byte_array.result
-    (c.put_byte_array.ensures f (subst (IsStep f) c.in-Bytes-Group.is-0 is))))
+    let new = c.put_bytes.new.into in
+    let end = c.in_ok-put_bytes-in-Bytes-Group.field-0 in
+    subst (λ (v : Taken). Started f (taken_datum v) old new c.args.at (Ok (None, end))) (sym c.in-Bytes-Group.is-1)
+    (start_bytes f old c.put_head.new.into new c.args.at c.in_ok-next-in-Bytes-Group.next c.in-Bytes-Group.extent c.in_ok-next-in-Bytes-Group.field-0-0 (cursor_data c.in-Bytes-Group.values) end
+    (subst (IsStep f) c.in-Bytes-Group.is-0 is) c.in_ok-next-in-Bytes-Group.ensures c.in_ok-put_bytes-in-Bytes-Group.ensures)
 
-pub returns-in-Array-Group-clause-started : goal.returns-in-Array-Group-clause-started
-returns-in-Array-Group-clause-started c = λ f is.
-    subst (λ (v : Taken). Started f (taken_datum v) c.args.into.now c.put_array.new.into c.args.at c.put_array.result) (sym c.in-Array-Group.is-1)
-    (c.put_array.ensures.started f (subst (IsStep f) c.in-Array-Group.is-0 is))
+pub returns-in_ok-count-in-Array-Group-clause-started : goal.returns-in_ok-count-in-Array-Group-clause-started
+returns-in_ok-count-in-Array-Group-clause-started c = λ f is.
+    let old = c.args.into.now in
+    let new = c.put_head-in-Array-Group.new.into in
+    let n = c.in_ok-count-in-Array-Group.count in
+    let next = c.in_ok-count-in-Array-Group.next in
+    let inner : Unput = record { left = Elements n c.in-Array-Group.element; values = c.in-Array-Group.values } in
+    subst (λ (v : Taken). Started f (taken_datum v) old new c.args.at (Ok (Some inner, next))) (sym c.in-Array-Group.is-1)
+    (start_array f old old new c.args.at next c.in-Array-Group.extent c.in-Array-Group.element n inner (cursor_data c.in-Array-Group.values)
+    (subst (IsStep f) c.in-Array-Group.is-0 is) refl refl c.in_ok-count-in-Array-Group.ensures)
 
 pub returns-in-Record-Group-clause-started : goal.returns-in-Record-Group-clause-started
 returns-in-Record-Group-clause-started c = λ f is.
