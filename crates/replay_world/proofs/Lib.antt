@@ -2,6 +2,7 @@ pub mod Boot
 pub mod Machines
 pub mod Numbered
 pub mod Pages
+pub mod Rising
 pub mod Standing
 pub mod Ticking
 pub mod WorldSteps
