@@ -11,10 +11,13 @@ none a n = omega arith
 pub keeps_all : {T E : Type 0} (r : Result T E) (s old : Stored) → s ≡ old → OnOk r (Keeps old s)
 keeps_all {T} {E} r s old is = subst (λ (x : Stored). OnOk r (Keeps x s)) is (on_ok_always r (refl, refl))
 
+pub still : (n : ℕ) (s old : Stored) → s ≡ old → RoseByAtMost n old s
+still n s old is =
+    subst (λ (x : Stored). RoseByAtMost n x s) is
+    (none _ n, (none _ n, none _ n, none _ n, none _ n, none _ n), none _ n, none _ n)
+
 pub rose_none : {T E : Type 0} (r : Result T E) (n : ℕ) (s old : Stored) → s ≡ old → OnOk r (RoseByAtMost n old s)
-rose_none {T} {E} r n s old is =
-    subst (λ (x : Stored). OnOk r (RoseByAtMost n x s)) is
-    (on_ok_always r (none _ n, (none _ n, none _ n, none _ n, none _ n, none _ n), none _ n, none _ n))
+rose_none {T} {E} r n s old is = on_ok_always r (still n s old is)
 
 -- what is kept, and has risen, since then
 pub keeps_since : {T E : Type 0} (r : Result T E) (s old new : Stored) → s ≡ old → OnOk r (Keeps s new) → OnOk r (Keeps old new)

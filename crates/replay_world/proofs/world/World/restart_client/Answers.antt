@@ -115,3 +115,9 @@ returns-then-place-len-clause-few c = rose_none c.put_impossible.result 8 c.args
 
 pub returns-then-not-booted-clause-few : goal.returns-then-not-booted-clause-few
 returns-then-not-booted-clause-few c = rose_none c.put_impossible-then-not-booted.result 8 (the_view c.self.inside) c.args.self.now c.self.view_is
+
+pub returns-clause-keeps : goal.returns-clause-keeps
+returns-clause-keeps c = on_ok_always c.put_restarted.result (ap (λ (x : Stored). x.forgotten) c.self.view_is)
+
+pub returns-then-not-booted-clause-keeps : goal.returns-then-not-booted-clause-keeps
+returns-then-not-booted-clause-keeps c = on_ok_always c.put_impossible-then-not-booted.result (ap (λ (x : Stored). x.forgotten) c.self.view_is)
