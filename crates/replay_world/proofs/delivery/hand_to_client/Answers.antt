@@ -82,3 +82,6 @@ returns-in-Hears c w k are =
       are_clients = clients_with items w.clients m place now heard.client are heard.is_client c.from-place.ensures;
       taken = subst (HearsAs (with_client w m heard.client) k c.in-Hears.told) (sym (ap (client_takes w k p) found.there)) did;
     }
+
+pub take-requires : goal.take-requires
+take-requires c = c.requires

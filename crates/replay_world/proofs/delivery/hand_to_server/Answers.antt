@@ -39,3 +39,6 @@ returns-else-branch c w k is =
       is_server = c.in_ok-take.ensures.ready ∙ (cond-false _ _ _ c.if-branch.false ∙ is);
       taken = server_takes-full w k p full;
     }
+
+pub take-requires : goal.take-requires
+take-requires c = c.requires

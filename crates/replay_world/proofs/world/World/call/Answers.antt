@@ -15,6 +15,7 @@ use Rattle.replay_world.specs.contracts.world.World.{the_view}
 use Rattle.replay_world.proofs.Numbered.{numbered-none}
 use Rattle.replay_world.proofs.Standing.{plays_one, plays_behind, plays_as, stands-clients, stands-start, client_of, clients_with, clients_same}
 use Rattle.replay_world.proofs.Zips.{zip-length}
+use Rattle.replay_world.proofs.Rising.{keeps_all, keeps_since, rose_none}
 use Rattle.replay_world.proofs.world.World.call.Goals as goal
 
 call_event-none : (w : World) (m p : ℕ) (o : Option Client) (asked : CallWord) → o ≡ None → call_event w m p o asked ≡ impossible w
@@ -122,3 +123,24 @@ returns-in_ok-put_start-in-Starts-clause-played c w h =
     (call_event-some w m c.args.process _ found.client word found.there ∙ did.outcome)
     (plays_behind before middle after c.tell.new.self w.records (Starts did.start) did.first (c.in_ok-put_start-in-Starts.ensures did.start did.call) p))
     (c.tell.ensures.played w' r did.first did.tells (stands-start s' w' did.start stands))
+
+pub returns-then-place-len-clause-keeps : goal.returns-then-place-len-clause-keeps
+returns-then-place-len-clause-keeps c = keeps_all c.put_impossible.result c.args.self.now c.args.self.now refl
+
+pub returns-then-place-len-clause-few : goal.returns-then-place-len-clause-few
+returns-then-place-len-clause-few c = rose_none c.put_impossible.result 2 c.args.self.now c.args.self.now refl
+
+pub returns-in-Impossible-clause-keeps : goal.returns-in-Impossible-clause-keeps
+returns-in-Impossible-clause-keeps c = keeps_all c.put_impossible-in-Impossible.result (the_view c.self.inside) c.args.self.now c.self.view_is
+
+pub returns-in-Impossible-clause-few : goal.returns-in-Impossible-clause-few
+returns-in-Impossible-clause-few c = rose_none c.put_impossible-in-Impossible.result 2 (the_view c.self.inside) c.args.self.now c.self.view_is
+
+pub returns-in-TooFast-clause-keeps : goal.returns-in-TooFast-clause-keeps
+returns-in-TooFast-clause-keeps c = keeps_all c.put_too_fast.result (the_view c.self.inside) c.args.self.now c.self.view_is
+
+pub returns-in-TooFast-clause-few : goal.returns-in-TooFast-clause-few
+returns-in-TooFast-clause-few c = rose_none c.put_too_fast.result 2 (the_view c.self.inside) c.args.self.now c.self.view_is
+
+pub returns-in_ok-put_start-in-Starts-clause-keeps : goal.returns-in_ok-put_start-in-Starts-clause-keeps
+returns-in_ok-put_start-in-Starts-clause-keeps c = keeps_since c.tell.result (the_view c.self.inside) c.args.self.now c.tell.new.self c.self.view_is c.tell.ensures.keeps

@@ -1,4 +1,4 @@
-use Rattle.std.proofs.Common.{◌≡◌, ℕ, ◌-◌, ◌≤◌, ◌<◌, List, length, ap, sym, subst, ◌∙◌, arith, Option, Some, None}
+use Rattle.std.proofs.Common.{◌≡◌, ℕ, ◌-◌, ◌≤◌, ◌<◌, List, length, ap, sym, subst, ◌∙◌, arith, Option, Some, None, refl}
 use Rattle.std.proofs.lemmas.Result.{on_ok_weaker}
 use Rattle.call_rules.specs.Packet.{Packet}
 use Rattle.replay_model.specs.Record.{Impossible}
@@ -12,6 +12,7 @@ use Rattle.replay_world.specs.Stored.{Stored, packets_of}
 use Rattle.replay_world.specs.Stands.{Stands}
 use Rattle.replay_world.specs.contracts.world.World.{the_view}
 use Rattle.replay_world.proofs.Standing.{plays_one, plays_as, no_packet, sent_packet, place_at, stands-machines}
+use Rattle.replay_world.proofs.Rising.{keeps_all, keeps_since, rose_none, rose_since}
 use Rattle.replay_world.proofs.world.World.deliver.Goals as goal
 
 deliver_event-none : (w : World) (k : ℕ) (o : Option Packet) → o ≡ None → deliver_event w k o ≡ impossible w
@@ -49,3 +50,15 @@ returns-clause-played c w h named =
     let w' : World = record w { server = handed.server; clients = handed.clients } in
     c.tell_delivery.ensures.played w' o (subst (TakenAs w' n c.in_ok-taken.taken) same handed.taken)
     (stands-machines s w c.hand_over.new.server handed.server c.hand_over.new.clients.items handed.clients kept handed.is_server handed.are_clients)
+
+pub returns-in_default-clause-keeps : goal.returns-in_default-clause-keeps
+returns-in_default-clause-keeps c = keeps_all c.put_impossible.result c.args.self.now c.args.self.now refl
+
+pub returns-in_default-clause-few : goal.returns-in_default-clause-few
+returns-in_default-clause-few c = rose_none c.put_impossible.result 1 c.args.self.now c.args.self.now refl
+
+pub returns-clause-keeps : goal.returns-clause-keeps
+returns-clause-keeps c = keeps_since c.tell_delivery.result (the_view c.self.inside) c.args.self.now c.tell_delivery.new.self c.self.view_is c.tell_delivery.ensures.keeps
+
+pub returns-clause-few : goal.returns-clause-few
+returns-clause-few c = rose_since c.tell_delivery.result 1 (the_view c.self.inside) c.args.self.now c.tell_delivery.new.self c.self.view_is c.tell_delivery.ensures.few

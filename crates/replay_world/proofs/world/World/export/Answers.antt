@@ -12,6 +12,7 @@ use Rattle.replay_world.specs.Stored.{Stored}
 use Rattle.replay_world.specs.Stands.{Stands, IsServer}
 use Rattle.replay_world.specs.contracts.world.World.{the_view}
 use Rattle.replay_world.proofs.Standing.{plays_one, plays_as, stands-server}
+use Rattle.replay_world.proofs.Rising.{keeps_all, rose_none}
 use Rattle.replay_world.proofs.world.World.export.Goals as goal
 
 -- the server has exported a name, or hasn't
@@ -48,3 +49,15 @@ returns-in-Err-clause-played c w h =
     (exported_in w s.second s.server now c.args.name.now c.in_ok-export.field-0 kept.second kept.server c.in_ok-export.ensures) in
     on_ok_weaker c.put_no_export.result (λ e. plays_as before after (record s { server = now }) w.records o _ did
     (plays_one before after (record s { server = now }) (record w { server = now }) w.records (NoExport c.in-Err.why) e (stands-server s w now now kept refl))) c.put_no_export.ensures
+
+pub returns-clause-keeps : goal.returns-clause-keeps
+returns-clause-keeps c = keeps_all c.put_export.result (the_view c.self.inside) c.args.self.now c.self.view_is
+
+pub returns-clause-few : goal.returns-clause-few
+returns-clause-few c = rose_none c.put_export.result 1 (the_view c.self.inside) c.args.self.now c.self.view_is
+
+pub returns-in-Err-clause-keeps : goal.returns-in-Err-clause-keeps
+returns-in-Err-clause-keeps c = keeps_all c.put_no_export.result (the_view c.self.inside) c.args.self.now c.self.view_is
+
+pub returns-in-Err-clause-few : goal.returns-in-Err-clause-few
+returns-in-Err-clause-few c = rose_none c.put_no_export.result 1 (the_view c.self.inside) c.args.self.now c.self.view_is

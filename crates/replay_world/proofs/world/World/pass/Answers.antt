@@ -1,4 +1,4 @@
-use Rattle.std.proofs.Common.{ℕ, ◌≤◌, List, sym, subst, arith, ◌≡◌, ◌<◌, [], ◌∷◌}
+use Rattle.std.proofs.Common.{ℕ, ◌≤◌, List, sym, subst, arith, ◌≡◌, ◌<◌, [], ◌∷◌, refl}
 use Rattle.std.proofs.lemmas.Result.{on_ok_weaker}
 use Rattle.std.proofs.lemmas.Bool.{cond-true, cond-false, le-ltb, lt-ltb}
 use Rattle.replay_model.specs.Record.{Impossible, Seconds}
@@ -9,6 +9,7 @@ use Rattle.replay_world.specs.Stored.{Stored}
 use Rattle.replay_world.specs.Stands.{Stands}
 use Rattle.replay_world.specs.contracts.world.World.{the_view}
 use Rattle.replay_world.proofs.Standing.{plays_one, plays_as, stands-second}
+use Rattle.replay_world.proofs.Rising.{keeps_all, rose_none}
 use Rattle.replay_world.proofs.world.World.pass.Goals as goal
 
 second_event-late : (w : World) (second : ℕ) → second ≤ w.second → second_event w second ≡ impossible w
@@ -37,3 +38,15 @@ returns-clause-played c w h =
     let n : ℕ = c.args.second in
     on_ok_weaker c.put_second.result (λ e. plays_as before after (record s { second = n }) w.records _ _ (second_event-passes w n (omega (arith, kept.second)))
     (plays_one before after (record s { second = n }) (record w { second = n }) w.records (Seconds n) e (stands-second s w n kept))) c.put_second.ensures
+
+pub returns-then-second-self-clause-keeps : goal.returns-then-second-self-clause-keeps
+returns-then-second-self-clause-keeps c = keeps_all c.put_impossible.result c.args.self.now c.args.self.now refl
+
+pub returns-then-second-self-clause-few : goal.returns-then-second-self-clause-few
+returns-then-second-self-clause-few c = rose_none c.put_impossible.result 1 c.args.self.now c.args.self.now refl
+
+pub returns-clause-keeps : goal.returns-clause-keeps
+returns-clause-keeps c = keeps_all c.put_second.result (the_view c.self.inside) c.args.self.now c.self.view_is
+
+pub returns-clause-few : goal.returns-clause-few
+returns-clause-few c = rose_none c.put_second.result 1 (the_view c.self.inside) c.args.self.now c.self.view_is

@@ -14,6 +14,7 @@ use Rattle.replay_world.specs.contracts.world.World.{the_view}
 use Rattle.replay_world.proofs.Numbered.{numbered-none}
 use Rattle.replay_world.proofs.Standing.{on_ok_always, plays_one, plays_as, stands-clients, stands-lost, client_of, clients_with, clients_same}
 use Rattle.replay_world.proofs.Zips.{zip-length}
+use Rattle.replay_world.proofs.Rising.{rose_none}
 use Rattle.replay_world.proofs.world.World.restart_client.Goals as goal
 
 -- a client has booted anew, or hasn't
@@ -136,3 +137,15 @@ returns-then-not-booted-clause-lost c w h =
     let lost : lost_of w (numbered 2 w.clients m) ≡ 0 = ap (lost_of w) found.there ∙ lost_stayed w m found.client now did in
     let before : s.lost ≡ c.args.self.now.lost = ap (λ (x : Stored). x.lost) c.self.view_is in
     on_ok_always c.put_impossible-then-not-booted.result (omega arith)
+
+pub returns-then-place-len-clause-few : goal.returns-then-place-len-clause-few
+returns-then-place-len-clause-few c = rose_none c.put_impossible.result 8 c.args.self.now c.args.self.now refl
+
+pub returns-then-not-booted-clause-few : goal.returns-then-not-booted-clause-few
+returns-then-not-booted-clause-few c = rose_none c.put_impossible-then-not-booted.result 8 (the_view c.self.inside) c.args.self.now c.self.view_is
+
+pub returns-clause-keeps : goal.returns-clause-keeps
+returns-clause-keeps c = on_ok_always c.put_restarted.result (ap (λ (x : Stored). x.forgotten) c.self.view_is)
+
+pub returns-then-not-booted-clause-keeps : goal.returns-then-not-booted-clause-keeps
+returns-then-not-booted-clause-keeps c = on_ok_always c.put_impossible-then-not-booted.result (ap (λ (x : Stored). x.forgotten) c.self.view_is)

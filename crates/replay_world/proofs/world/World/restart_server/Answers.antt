@@ -10,6 +10,7 @@ use Rattle.replay_world.specs.Stored.{Stored}
 use Rattle.replay_world.specs.Stands.{Stands, IsServer}
 use Rattle.replay_world.specs.contracts.world.World.{the_view}
 use Rattle.replay_world.proofs.Standing.{plays_one, plays_as, stands-server}
+use Rattle.replay_world.proofs.Rising.{keeps_all, rose_none}
 use Rattle.replay_world.proofs.world.World.restart_server.Goals as goal
 
 -- the server has booted anew, or hasn't
@@ -46,3 +47,15 @@ returns-then-not-booted-clause-played c w h =
     let stands : Stands (record s { server = now }) w = subst (λ (x : Server). Stands (record s { server = now }) (record w { server = x })) did.1 (stands-server s w now now kept refl) in
     on_ok_weaker c.put_impossible.result (λ e. plays_as before after (record s { server = now }) w.records o _ did.0
     (plays_one before after (record s { server = now }) w w.records Impossible e stands)) c.put_impossible.ensures
+
+pub returns-clause-keeps : goal.returns-clause-keeps
+returns-clause-keeps c = keeps_all c.put_restarted.result (the_view c.self.inside) c.args.self.now c.self.view_is
+
+pub returns-clause-few : goal.returns-clause-few
+returns-clause-few c = rose_none c.put_restarted.result 1 (the_view c.self.inside) c.args.self.now c.self.view_is
+
+pub returns-then-not-booted-clause-keeps : goal.returns-then-not-booted-clause-keeps
+returns-then-not-booted-clause-keeps c = keeps_all c.put_impossible.result (the_view c.self.inside) c.args.self.now c.self.view_is
+
+pub returns-then-not-booted-clause-few : goal.returns-then-not-booted-clause-few
+returns-then-not-booted-clause-few c = rose_none c.put_impossible.result 1 (the_view c.self.inside) c.args.self.now c.self.view_is

@@ -13,6 +13,7 @@ use Rattle.replay_world.specs.contracts.world.World.{the_view}
 use Rattle.replay_world.proofs.Numbered.{numbered-none}
 use Rattle.replay_world.proofs.Standing.{plays_one, plays_as, stands-clients, client_of, clients_with, clients_same}
 use Rattle.replay_world.proofs.Zips.{zip-length}
+use Rattle.replay_world.proofs.Rising.{keeps_all, rose_none}
 use Rattle.replay_world.proofs.world.World.skip.Goals as goal
 
 skip_event-none : (w : World) (m p : ℕ) (o : Option Client) (by : ℕ) → o ≡ None → skip_event w m p o by ≡ impossible w
@@ -84,3 +85,21 @@ returns-clause-played c w h =
     on_ok_weaker c.put_skipped.result (λ e. plays_as before after (record s { clients = set s.clients place now }) w.records _ _
     (skip_event-some w m c.args.process _ found.client c.args.by found.there ∙ did)
     (plays_one before after (record s { clients = set s.clients place now }) (with_client w m now) w.records (Skips x.activity x.next) e stands)) c.put_skipped.ensures
+
+pub returns-then-place-len-clause-keeps : goal.returns-then-place-len-clause-keeps
+returns-then-place-len-clause-keeps c = keeps_all c.put_impossible.result c.args.self.now c.args.self.now refl
+
+pub returns-then-place-len-clause-few : goal.returns-then-place-len-clause-few
+returns-then-place-len-clause-few c = rose_none c.put_impossible.result 1 c.args.self.now c.args.self.now refl
+
+pub returns-in_default-clause-keeps : goal.returns-in_default-clause-keeps
+returns-in_default-clause-keeps c = keeps_all c.put_impossible-in_default.result (the_view c.self.inside) c.args.self.now c.self.view_is
+
+pub returns-in_default-clause-few : goal.returns-in_default-clause-few
+returns-in_default-clause-few c = rose_none c.put_impossible-in_default.result 1 (the_view c.self.inside) c.args.self.now c.self.view_is
+
+pub returns-clause-keeps : goal.returns-clause-keeps
+returns-clause-keeps c = keeps_all c.put_skipped.result (the_view c.self.inside) c.args.self.now c.self.view_is
+
+pub returns-clause-few : goal.returns-clause-few
+returns-clause-few c = rose_none c.put_skipped.result 1 (the_view c.self.inside) c.args.self.now c.self.view_is

@@ -18,6 +18,7 @@ use Rattle.replay_world.specs.Stands.{Stands}
 use Rattle.replay_world.specs.contracts.world.World.{the_view}
 use Rattle.replay_world.proofs.Pages.{written-nothing}
 use Rattle.replay_world.proofs.Standing.{plays_one, plays_as, stands-beside, stands-return, stands-packet, same_count, on_ok_both}
+use Rattle.replay_world.proofs.Rising.{keeps_all, rose_none}
 use Rattle.replay_world.proofs.world.World.tell.Goals as goal
 
 pub returns-in-Sends-clause-played : goal.returns-in-Sends-clause-played
@@ -69,3 +70,27 @@ returns-in-Returned-clause-played c w r o told h =
     (plays_as before after s' r o _ (told.outcome ∙ ap (tells w call) answers.returned)
     (plays_one before after s' w r act (e ∙ ap (λ (d : Digest). written before (return_line call signal d)) (sym answers.digest))
     (stands-return s w' call signal answers.bytes kept)))) c.put_return.ensures
+
+pub returns-in-Waits-clause-keeps : goal.returns-in-Waits-clause-keeps
+returns-in-Waits-clause-keeps c = keeps_all c.put_waiting.result c.args.self.now c.args.self.now refl
+
+pub returns-in-Waits-clause-few : goal.returns-in-Waits-clause-few
+returns-in-Waits-clause-few c = rose_none c.put_waiting.result 1 c.args.self.now c.args.self.now refl
+
+pub returns-in-BindFails-clause-keeps : goal.returns-in-BindFails-clause-keeps
+returns-in-BindFails-clause-keeps c = keeps_all c.put_bind_failure.result c.args.self.now c.args.self.now refl
+
+pub returns-in-BindFails-clause-few : goal.returns-in-BindFails-clause-few
+returns-in-BindFails-clause-few c = rose_none c.put_bind_failure.result 1 c.args.self.now c.args.self.now refl
+
+pub returns-in-BoundTo-clause-keeps : goal.returns-in-BoundTo-clause-keeps
+returns-in-BoundTo-clause-keeps c = keeps_all c.put_bound.result c.args.self.now c.args.self.now refl
+
+pub returns-in-BoundTo-clause-few : goal.returns-in-BoundTo-clause-few
+returns-in-BoundTo-clause-few c = rose_none c.put_bound.result 1 c.args.self.now c.args.self.now refl
+
+pub returns-in-NotBound-clause-keeps : goal.returns-in-NotBound-clause-keeps
+returns-in-NotBound-clause-keeps c = keeps_all c.put_unbound.result c.args.self.now c.args.self.now refl
+
+pub returns-in-NotBound-clause-few : goal.returns-in-NotBound-clause-few
+returns-in-NotBound-clause-few c = rose_none c.put_unbound.result 1 c.args.self.now c.args.self.now refl

@@ -10,6 +10,7 @@ use Rattle.replay_world.specs.declared.delivery.Taken.{Taken}
 use Rattle.replay_world.specs.Stored.{Stored}
 use Rattle.replay_world.proofs.Pages.{written-nothing}
 use Rattle.replay_world.proofs.Standing.{plays_behind, plays_as, stands-beside}
+use Rattle.replay_world.proofs.Rising.{keeps_all, rose_none}
 use Rattle.replay_world.proofs.world.World.tell_delivery.Goals as goal
 
 pub returns-in-Hears-clause-played : goal.returns-in-Hears-clause-played
@@ -24,3 +25,15 @@ returns-in-Hears-clause-played c w o taken h =
     plays_as before after c.tell.new.self w.records o (behind act heard.rest) heard.outcome
     (plays_behind before before after c.tell.new.self w.records act heard.rest (sym (written-nothing before)) p))
     (c.tell.ensures.played w (recorded w.records act) heard.rest heard.tells (stands-beside s w (recorded w.records act) refl refl refl h))
+
+pub returns-in-Readied-clause-keeps : goal.returns-in-Readied-clause-keeps
+returns-in-Readied-clause-keeps c = keeps_all c.put_ready.result c.args.self.now c.args.self.now refl
+
+pub returns-in-Readied-clause-few : goal.returns-in-Readied-clause-few
+returns-in-Readied-clause-few c = rose_none c.put_ready.result 1 c.args.self.now c.args.self.now refl
+
+pub returns-in-Dropped-clause-keeps : goal.returns-in-Dropped-clause-keeps
+returns-in-Dropped-clause-keeps c = keeps_all c.put_discard.result c.args.self.now c.args.self.now refl
+
+pub returns-in-Dropped-clause-few : goal.returns-in-Dropped-clause-few
+returns-in-Dropped-clause-few c = rose_none c.put_discard.result 1 c.args.self.now c.args.self.now refl

@@ -11,6 +11,7 @@ use Rattle.replay_world.specs.Stands.{Stands}
 use Rattle.replay_world.specs.Played.{Plays, fails}
 use Rattle.replay_world.specs.contracts.world.World.{the_view}
 use Rattle.replay_world.proofs.Standing.{plays_one, stands-failure, stands-refusal}
+use Rattle.replay_world.proofs.Rising.{keeps_all}
 use Rattle.replay_world.proofs.world.World.tell_failure.Goals as goal
 
 pub returns-in-Unanswered-clause-played : goal.returns-in-Unanswered-clause-played
@@ -35,3 +36,9 @@ returns-in-Refused-clause-played c w h =
     on_ok_weaker c.put_refusal.result (λ e. subst (λ (n : Counts). Plays before after (record s { counts = n }) w.records (fails w call (cause_of c.args.cause))) (sym c.count_refusal.ensures)
     (subst (λ (x : Cause). Plays before after (record s { counts = counts_refusal s.counts }) w.records (fails w call (cause_of x))) (sym c.in-Refused.is)
     (plays_one before after (record s { counts = counts_refusal s.counts }) w w.records (Fails call (RefusedFor reason)) e (stands-refusal s w call reason kept)))) c.put_refusal.ensures
+
+pub returns-in-Unanswered-clause-keeps : goal.returns-in-Unanswered-clause-keeps
+returns-in-Unanswered-clause-keeps c = keeps_all c.put_failure.result (the_view c.self.inside) c.args.self.now c.self.view_is
+
+pub returns-in-Refused-clause-keeps : goal.returns-in-Refused-clause-keeps
+returns-in-Refused-clause-keeps c = keeps_all c.put_refusal.result (the_view c.self.inside) c.args.self.now c.self.view_is

@@ -10,11 +10,12 @@ use Rattle.replay_client.specs.declared.told.Told.{Told}
 use Rattle.replay_client.specs.Told.{Says, TellsAs}
 use Rattle.replay_client.specs.Client.{TicksAs}
 use Rattle.replay_lines.specs.Page.{Page}
-use Rattle.replay_world.specs.Stored.{Stored}
+use Rattle.replay_world.specs.Stored.{Stored, RoseByAtMost, Keeps}
 use Rattle.replay_world.specs.Stands.{Stands, IsClient}
 use Rattle.replay_world.specs.Played.{PlaysTick, is_silent}
 use Rattle.replay_world.specs.contracts.world.World.{the_view}
 use Rattle.replay_world.proofs.Numbered.{numbered-none}
+use Rattle.replay_world.proofs.Rising.{still}
 use Rattle.replay_world.proofs.Standing.{plays_none, plays_as, stands-clients, client_of, clients_with, clients_same}
 use Rattle.replay_world.proofs.Zips.{zip-length}
 use Rattle.replay_world.proofs.world.World.tick.Goals as goal
@@ -112,3 +113,15 @@ returns-clause-played c w h =
       plays = plays_as before after c.tell.new.self w.records _ by same (c.in_ok-tell.ensures.played w' w.records by did stands);
       silent = quiet ∙ sym (ap (λ (x : Outcome). is_silent x.acts) same);
     }
+
+pub returns-clause-keeps : goal.returns-clause-keeps
+returns-clause-keeps c = subst (λ (x : Stored). Keeps x c.tell.new.self) c.self.view_is c.in_ok-tell.ensures.keeps
+
+pub returns-clause-few : goal.returns-clause-few
+returns-clause-few c = subst (λ (x : Stored). RoseByAtMost 1 x c.tell.new.self) c.self.view_is c.in_ok-tell.ensures.few
+
+pub returns-in_default-clause-keeps : goal.returns-in_default-clause-keeps
+returns-in_default-clause-keeps c = (ap (λ (x : Stored). x.forgotten) c.self.view_is, ap (λ (x : Stored). x.lost) c.self.view_is)
+
+pub returns-in_default-clause-few : goal.returns-in_default-clause-few
+returns-in_default-clause-few c = still 1 (the_view c.self.inside) c.args.self.now c.self.view_is

@@ -10,6 +10,7 @@ use Rattle.replay_world.specs.Stored.{Stored}
 use Rattle.replay_world.specs.Stands.{Stands, IsServer}
 use Rattle.replay_world.specs.contracts.world.World.{the_view}
 use Rattle.replay_world.proofs.Standing.{plays_one, plays_as, stands-server}
+use Rattle.replay_world.proofs.Rising.{keeps_all, rose_none}
 use Rattle.replay_world.proofs.world.World.withdraw.Goals as goal
 
 -- the server has taken an export back, or hasn't
@@ -44,3 +45,15 @@ returns-clause-played c w h =
     let did = subst (λ (d : Option ℕ). server.WithdrawsAs w now d o) c.in-Some.is (withdrawn_in w s.server now c.args.name.now c.withdraw.result kept.server c.withdraw.ensures) in
     on_ok_weaker c.put_withdrawn.result (λ e. plays_as before after (record s { server = now }) w.records o _ did
     (plays_one before after (record s { server = now }) (record w { server = now }) w.records (Withdraws c.in-Some.index) e (stands-server s w now now kept refl))) c.put_withdrawn.ensures
+
+pub returns-in_default-clause-keeps : goal.returns-in_default-clause-keeps
+returns-in_default-clause-keeps c = keeps_all c.put_impossible.result (the_view c.self.inside) c.args.self.now c.self.view_is
+
+pub returns-in_default-clause-few : goal.returns-in_default-clause-few
+returns-in_default-clause-few c = rose_none c.put_impossible.result 1 (the_view c.self.inside) c.args.self.now c.self.view_is
+
+pub returns-clause-keeps : goal.returns-clause-keeps
+returns-clause-keeps c = keeps_all c.put_withdrawn.result (the_view c.self.inside) c.args.self.now c.self.view_is
+
+pub returns-clause-few : goal.returns-clause-few
+returns-clause-few c = rose_none c.put_withdrawn.result 1 (the_view c.self.inside) c.args.self.now c.self.view_is

@@ -11,6 +11,7 @@ use Rattle.replay_world.specs.Stored.{Stored}
 use Rattle.replay_world.specs.Stands.{Stands, IsServer}
 use Rattle.replay_world.specs.contracts.world.World.{the_view}
 use Rattle.replay_world.proofs.Standing.{plays_one, plays_as, stands-server}
+use Rattle.replay_world.proofs.Rising.{keeps_all, keeps_since, rose_none, rose_since}
 use Rattle.replay_world.proofs.world.World.work.Goals as goal
 
 -- a worker has stepped, and the machine stands for this server
@@ -70,3 +71,21 @@ returns-in-Step-clause-played c w h =
     let o : Outcome = work_event w who (numbered 1 w.server.workers who) in
     let did : StepsAs w who k.server c.in-Step.stepped o = subst (λ (d : Worked). WorksAs w who k.server d o) c.in-Step.is k.outcome in
     c.tell_step.ensures.played w k.server w.records o did (stands-server s w now k.server kept k.is_server)
+
+pub returns-in-Impossible-clause-keeps : goal.returns-in-Impossible-clause-keeps
+returns-in-Impossible-clause-keeps c = keeps_all c.put_impossible.result (the_view c.self.inside) c.args.self.now c.self.view_is
+
+pub returns-in-Impossible-clause-few : goal.returns-in-Impossible-clause-few
+returns-in-Impossible-clause-few c = rose_none c.put_impossible.result 1 (the_view c.self.inside) c.args.self.now c.self.view_is
+
+pub returns-in-Idle-clause-keeps : goal.returns-in-Idle-clause-keeps
+returns-in-Idle-clause-keeps c = keeps_all c.put_idle.result (the_view c.self.inside) c.args.self.now c.self.view_is
+
+pub returns-in-Idle-clause-few : goal.returns-in-Idle-clause-few
+returns-in-Idle-clause-few c = rose_none c.put_idle.result 1 (the_view c.self.inside) c.args.self.now c.self.view_is
+
+pub returns-in-Step-clause-keeps : goal.returns-in-Step-clause-keeps
+returns-in-Step-clause-keeps c = keeps_since c.tell_step.result (the_view c.self.inside) c.args.self.now c.tell_step.new.self c.self.view_is c.tell_step.ensures.keeps
+
+pub returns-in-Step-clause-few : goal.returns-in-Step-clause-few
+returns-in-Step-clause-few c = rose_since c.tell_step.result 1 (the_view c.self.inside) c.args.self.now c.tell_step.new.self c.self.view_is c.tell_step.ensures.few
