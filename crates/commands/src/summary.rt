@@ -1,7 +1,7 @@
 //! The summary of a storm.
 
 ghost use Rattle.std.specs.Prelude.{◌≡◌, ◌++◌, OnOk};
-ghost use Rattle.storm_model.specs.Summary.{summary_text};
+ghost use Rattle.storm_model.specs.Summary.{count_line, summary_text};
 
 use replay_lines::Print;
 use std::alloc::AllocError;
@@ -58,13 +58,20 @@ pub fn put_summary(
     ensures { OnOk result (out.new.items ≡ out.old.items ++ summary_text options.now.seed options.now.calls summary.now) }
 {
     writeln!(out, "storm {} {}", options.seed, options.calls)?;
-    writeln!(out, "started {}", summary.started)?;
-    writeln!(out, "runs {}", summary.runs)?;
-    writeln!(out, "returned {}", summary.returned)?;
-    writeln!(out, "signalled {}", summary.signalled)?;
-    writeln!(out, "failed {}", summary.failed)?;
-    writeln!(out, "refused {}", summary.refused)?;
-    writeln!(out, "lost {}", summary.lost)?;
-    writeln!(out, "open {}", summary.still_open)?;
-    writeln!(out, "packets {}", summary.packets)
+    put_count(out, "started", summary.started)?;
+    put_count(out, "runs", summary.runs)?;
+    put_count(out, "returned", summary.returned)?;
+    put_count(out, "signalled", summary.signalled)?;
+    put_count(out, "failed", summary.failed)?;
+    put_count(out, "refused", summary.refused)?;
+    put_count(out, "lost", summary.lost)?;
+    put_count(out, "open", summary.still_open)?;
+    put_count(out, "packets", summary.packets)
+}
+
+/// Appends a line with a name and a number.
+fn put_count(out: &mut Vec<u8>, name: &str, count: u64) -> Result<(), AllocError>
+    ensures { OnOk result (out.new.items ≡ out.old.items ++ count_line name.now count) }
+{
+    writeln!(out, "{name} {count}")
 }

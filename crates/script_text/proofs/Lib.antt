@@ -12,3 +12,4 @@ mod Positions
 mod Rows
 mod TextLaw
 mod Walking
+mod Verbs

@@ -77,7 +77,7 @@ spelled_words begun words e =
         said = words_say form.places words (small_form form picked.listed) row.agree row.long no_fault;
         event = gives.0;
         built = gives.1;
-        gives = refl;
+        gives = refl {a = gives.0 values};
       };
     }
 

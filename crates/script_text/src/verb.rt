@@ -38,42 +38,100 @@ pub enum CallVerb {
     BigResult,
 }
 
+/// The first words that a line may have, those first that most lines have.
+const VERBS: [Verb; 17] = [
+    Verb::Call,
+    Verb::Tick,
+    Verb::Bind,
+    Verb::Second,
+    Verb::Restart,
+    Verb::Damage,
+    Verb::Deliver,
+    Verb::Work,
+    Verb::Export,
+    Verb::Withdraw,
+    Verb::Skip,
+    Verb::Show,
+    Verb::Journal,
+    Verb::End,
+    Verb::Pool,
+    Verb::Holders,
+    Verb::Sweep,
+];
+
+/// The call words.
+const CALL_VERBS: [CallVerb; 7] = [
+    CallVerb::Null,
+    CallVerb::Add,
+    CallVerb::Bump,
+    CallVerb::MaxArg,
+    CallVerb::MaxResult,
+    CallVerb::BigArg,
+    CallVerb::BigResult,
+];
+
+impl Verb {
+    /// How the word is spelled.
+    fn text(self) -> &'static [u8]
+        ensures { result.now ≡ text_of self }
+    {
+        match self {
+            Verb::Pool => b"pool",
+            Verb::Second => b"second",
+            Verb::Call => b"call",
+            Verb::Bind => b"bind",
+            Verb::Tick => b"tick",
+            Verb::Deliver => b"deliver",
+            Verb::Damage => b"damage",
+            Verb::Work => b"work",
+            Verb::Export => b"export",
+            Verb::Withdraw => b"withdraw",
+            Verb::Restart => b"restart",
+            Verb::Skip => b"skip",
+            Verb::Show => b"show",
+            Verb::Holders => b"holders",
+            Verb::Sweep => b"sweep",
+            Verb::Journal => b"journal",
+            Verb::End => b"end",
+        }
+    }
+}
+
+impl CallVerb {
+    /// How the word is spelled.
+    fn text(self) -> &'static [u8]
+        ensures { result.now ≡ asked_text_of self }
+    {
+        match self {
+            CallVerb::Null => b"null",
+            CallVerb::Add => b"add",
+            CallVerb::Bump => b"bump",
+            CallVerb::MaxArg => b"maxarg",
+            CallVerb::MaxResult => b"maxresult",
+            CallVerb::BigArg => b"bigarg",
+            CallVerb::BigResult => b"bigresult",
+        }
+    }
+}
+
 pub fn verb_of(word: &[u8]) -> Option<Verb>
     ensures { IsVerb word.now result }
 {
-    match word {
-        b"pool" => Some(Verb::Pool),
-        b"second" => Some(Verb::Second),
-        b"call" => Some(Verb::Call),
-        b"bind" => Some(Verb::Bind),
-        b"tick" => Some(Verb::Tick),
-        b"deliver" => Some(Verb::Deliver),
-        b"damage" => Some(Verb::Damage),
-        b"work" => Some(Verb::Work),
-        b"export" => Some(Verb::Export),
-        b"withdraw" => Some(Verb::Withdraw),
-        b"restart" => Some(Verb::Restart),
-        b"skip" => Some(Verb::Skip),
-        b"show" => Some(Verb::Show),
-        b"holders" => Some(Verb::Holders),
-        b"sweep" => Some(Verb::Sweep),
-        b"journal" => Some(Verb::Journal),
-        b"end" => Some(Verb::End),
-        _ => None,
+    for verb in &VERBS {
+        if word == verb.text() {
+            return Some(*verb);
+        }
     }
+    None
 }
 
 pub fn call_verb_of(word: &[u8]) -> Option<CallVerb>
     ensures { MatchOption result ((v : CallVerb) → word.now ≢ asked_text_of v) (λ v. word.now ≡ asked_text_of v) }
 {
-    match word {
-        b"null" => Some(CallVerb::Null),
-        b"add" => Some(CallVerb::Add),
-        b"bump" => Some(CallVerb::Bump),
-        b"maxarg" => Some(CallVerb::MaxArg),
-        b"maxresult" => Some(CallVerb::MaxResult),
-        b"bigarg" => Some(CallVerb::BigArg),
-        b"bigresult" => Some(CallVerb::BigResult),
-        _ => None,
+    for verb in &CALL_VERBS {
+        if word == verb.text() {
+            return Some(*verb);
+        }
     }
+    None
 }
