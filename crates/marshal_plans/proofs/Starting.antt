@@ -137,3 +137,13 @@ pub bytes_refused : (f : Form) (x : Extent) (ds : Data) (old mid new : List ℕ)
     → Puts mid new place (Err e) (each (enc (number Byte)) ds) → Started f (group ds) old new at (Err e)
 bytes_refused f x ds old mid new at place Shape is p = wrong_bytes f x ds is p
 bytes_refused f x ds old mid new at place Room is p = absurd p
+
+pub array_refused : (f : Form) (x : Extent) (element : Bor (List Instruction)) (ds : Data) (old new : List ℕ) (at : ℕ) (e : PutFault)
+    → IsStep f (step.Array x element) → Headed (count ds) (count_code x (count ds)) old new at (Err e) → Started f (group ds) old new at (Err e)
+array_refused f x element ds old new at Shape is head = wrong_count f x element ds is head
+array_refused f x element ds old new at Room is head = absurd head
+
+pub byte_count_refused : (f : Form) (x : Extent) (ds : Data) (old new : List ℕ) (at : ℕ) (e : PutFault) → IsStep f (step.Bytes x)
+    → Headed (count ds) (count_code x (count ds)) old new at (Err e) → Started f (group ds) old new at (Err e)
+byte_count_refused f x ds old new at Shape is head = wrong_byte_count f x ds is head
+byte_count_refused f x ds old new at Room is head = absurd head

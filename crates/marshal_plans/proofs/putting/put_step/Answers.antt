@@ -6,7 +6,7 @@ use Rattle.marshal_plans.specs.declared.putting.Unput.{Unput}
 use Rattle.marshal_plans.specs.Cursors.{cursor_data, taken_datum}
 use Rattle.marshal_plans.specs.Puts.{Started}
 use Rattle.marshal_plans.specs.Steps.{IsStep}
-use Rattle.marshal_plans.proofs.Starting.{start_bytes, start_array, start_record, bytes_refused}
+use Rattle.marshal_plans.proofs.Starting.{start_bytes, start_array, start_record, bytes_refused, array_refused, byte_count_refused}
 use Rattle.marshal_plans.proofs.putting.put_step.Goals as goal
 
 pub returns-in_err-put_bytes-in-Bytes-Group-clause-started : goal.returns-in_err-put_bytes-in-Bytes-Group-clause-started
@@ -46,3 +46,22 @@ returns-in-Record-Group-clause-started c = λ f is.
     subst (λ (v : Taken). Started f (taken_datum v) old old c.args.at (Ok (Some inner, c.args.at))) (sym c.in-Record-Group.is-1)
     (start_record f old old old c.args.at c.args.at c.in-Record-Group.parts inner (cursor_data c.in-Record-Group.values)
     (subst (IsStep f) c.in-Record-Group.is-0 is) refl refl)
+
+pub returns-in_err-next-in-Bytes-Group-clause-started : goal.returns-in_err-next-in-Bytes-Group-clause-started
+returns-in_err-next-in-Bytes-Group-clause-started c = λ f is.
+    let back = c.from_residual-in_err-next-in-Bytes-Group in
+    let p = err_from_is_err_and back.result back.ensures.1 in
+    let e = c.in_err-next-in-Bytes-Group.field-0.0 in
+    rw (p.1, p.2) (subst (λ (v : Taken). Started f (taken_datum v) c.args.into.now c.put_head.new.into c.args.at (Err e)) (sym c.in-Bytes-Group.is-1)
+    (byte_count_refused f c.in-Bytes-Group.extent (cursor_data c.in-Bytes-Group.values) c.args.into.now c.put_head.new.into c.args.at e
+    (subst (IsStep f) c.in-Bytes-Group.is-0 is) c.in_err-next-in-Bytes-Group.ensures))
+
+pub returns-in_err-count-in-Array-Group-clause-started : goal.returns-in_err-count-in-Array-Group-clause-started
+returns-in_err-count-in-Array-Group-clause-started c = λ f is.
+    let back = c.from_residual-in_err-count-in-Array-Group in
+    let p = err_from_is_err_and back.result back.ensures.1 in
+    let e = c.in_err-count-in-Array-Group.field-0.0 in
+    let new = c.put_head-in-Array-Group.new.into in
+    rw (p.1, p.2) (subst (λ (v : Taken). Started f (taken_datum v) c.args.into.now new c.args.at (Err e)) (sym c.in-Array-Group.is-1)
+    (array_refused f c.in-Array-Group.extent c.in-Array-Group.element (cursor_data c.in-Array-Group.values) c.args.into.now new c.args.at e
+    (subst (IsStep f) c.in-Array-Group.is-0 is) c.in_err-count-in-Array-Group.ensures))
