@@ -78,53 +78,42 @@ impl Scanner {
         ensures here { OnOk result (self.new.here ≡ spec.behind self.old.here byte) }
     {
         let next = self.here.behind(byte);
-        self.step(byte)?;
+        match self.mode {
+            Mode::Between => self.begin(byte)?,
+            Mode::Parenthesis(place) => {
+                if byte == b'*' {
+                    self.mode = Mode::Comment(place);
+                } else {
+                    self.push(Token::Sign(Sign::Open), place)?;
+                    self.begin(byte)?;
+                }
+            }
+            Mode::Comment(place) => {
+                if byte == b'*' {
+                    self.mode = Mode::Star(place);
+                }
+            }
+            Mode::Star(place) => self.mode = behind_star(place, byte),
+            Mode::Letters(place) => {
+                if byte.is_ascii_alphanumeric() {
+                    self.letters.push(byte)?;
+                } else {
+                    self.end_letters(place)?;
+                    self.begin(byte)?;
+                }
+            }
+            Mode::Digits(place, number) => {
+                if byte.is_ascii_digit() {
+                    self.mode = Mode::Digits(place, with_digit(number, byte));
+                } else {
+                    self.push(Token::Number(number), place)?;
+                    self.begin(byte)?;
+                }
+            }
+            Mode::Stopped(_) => {}
+        }
         self.here = next;
         Ok(())
-    }
-
-    /// Takes a byte, and stays at its place.
-    fn step(&mut self, byte: u8) -> Result<(), AllocError>
-        ensures { OnOk result (scan_of self.new ≡ spec.step (scan_of self.old) byte self.old.mode) }
-    {
-        match self.mode {
-            Mode::Between => self.begin(byte),
-            Mode::Parenthesis(place) if byte == b'*' => {
-                self.mode = Mode::Comment(place);
-                Ok(())
-            }
-            Mode::Parenthesis(place) => self.end_token(Token::Sign(Sign::Open), place, byte),
-            Mode::Comment(place) if byte == b'*' => {
-                self.mode = Mode::Star(place);
-                Ok(())
-            }
-            Mode::Star(place) => {
-                self.mode = behind_star(place, byte);
-                Ok(())
-            }
-            Mode::Letters(_) if byte.is_ascii_alphanumeric() => {
-                self.letters.push(byte)?;
-                Ok(())
-            }
-            Mode::Letters(place) => {
-                let token = letters_of(self.letters.as_slice());
-                self.end_token(token, place, byte)
-            }
-            Mode::Digits(place, number) if byte.is_ascii_digit() => {
-                self.mode = Mode::Digits(place, with_digit(number, byte));
-                Ok(())
-            }
-            Mode::Digits(place, number) => self.end_token(Token::Number(number), place, byte),
-            Mode::Comment(_) | Mode::Stopped(_) => Ok(()),
-        }
-    }
-
-    /// Takes a byte that stands behind a token.
-    fn end_token(&mut self, token: Token, place: Place, byte: u8) -> Result<(), AllocError>
-        ensures { OnOk result (scan_of self.new ≡ spec.begin (spec.with_token (scan_of self.old) token place) byte) }
-    {
-        self.push(token, place)?;
-        self.begin(byte)
     }
 
     /// Takes a byte that continues no token.
