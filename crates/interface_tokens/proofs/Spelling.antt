@@ -1,31 +1,47 @@
 -- Reserved words are found by their spelling.
-use Rattle.std.proofs.Common.{◌≡◌, ◌<◌, ◌+◌, ℕ, Bool, true, false, cond, List, Option, Some, None, length, get_or, drop, sym, ap, ◌∙◌}
+use Rattle.std.proofs.Common.{◌≡◌, ◌≢◌, ℕ, Bool, true, false, List, [], ◌∷◌, Option, Some, None, MatchOption, refl, ap, sym, ◌∙◌}
 use Rattle.std.specs.Prelude.{find}
-use Rattle.std.proofs.lemmas.List.{at_drop_more}
+use Rattle.std.proofs.lemmas.Slice.Eq.{slice_eq-Decides}
+use Rattle.std.proofs.lemmas.Bool.Decides.{Decides-eqb}
 use Rattle.interface_tokens.specs.Names.{is_same}
-use Rattle.interface_tokens.specs.Tokens.{spelling_of}
+use Rattle.interface_tokens.specs.Tokens.{spelling_of, word_of, words}
 use Rattle.interface_tokens.specs.declared.token.Word.{Word}
+use Rattle.interface_tokens.specs.declared.token.Word.TheVariants as word
 
--- the first of these words that the bytes spell
-abbrev pub word_in : List ℕ → List Word → Option Word
-word_in bytes = find (λ w. is_same bytes (spelling_of w))
+differ : (xs ys : List ℕ) → xs ≢ ys → is_same xs ys ≡ false
+differ xs ys h = elim (is_same xs ys) as (λ b. is_same xs ys ≡ b → b ≡ false)
+    [ true ↦ λ e. absurd (h ((slice_eq-Decides Decides-eqb xs ys (is_same xs ys) refl).0 e)) | false ↦ λ e. refl ] refl
 
-word_at : (bytes spelling : List ℕ) (words : List Word) (i : ℕ) (d : Word) (same answer : Bool) → i < length words
-    → spelling ≡ spelling_of (get_or words i d) → same ≡ is_same bytes spelling → same ≡ answer
-    → word_in bytes (drop i words) ≡ cond answer (Some (get_or words i d)) (word_in bytes (drop (i + 1) words))
-word_at bytes spelling words i d same answer lt s e h =
-    let p : is_same bytes (spelling_of (get_or words i d)) ≡ answer = ap (is_same bytes) (sym s) ∙ sym e ∙ h in
-    at_drop_more (word_in bytes) words i d lt
-    ∙ ap (λ (b : Bool). cond b (Some (get_or words i d)) (word_in bytes (drop (i + 1) words))) p
+find_none : (p : Word → Bool) (ws : List Word) → ((w : Word) → p w ≡ false) → find p ws ≡ None
+find_none p [] h = refl
+find_none p (w ∷ ws) h = rw (h w) (find_none p ws h)
 
--- a word that the bytes don't spell is passed
-pub passed : (bytes spelling : List ℕ) (words : List Word) (i : ℕ) (d : Word) (same : Bool) → i < length words
-    → spelling ≡ spelling_of (get_or words i d) → same ≡ is_same bytes spelling → same ≡ false
-    → word_in bytes (drop (i + 1) words) ≡ word_in bytes (drop i words)
-passed bytes spelling words i d same lt s e h = sym (word_at bytes spelling words i d same false lt s e h)
+pub no_word : (bytes : List ℕ) → ((w : Word) → bytes ≢ spelling_of w) → word_of bytes ≡ None
+unfolding word_of
+no_word bytes h = find_none (λ w. is_same bytes (spelling_of w)) words (λ w. differ bytes (spelling_of w) (h w))
 
--- one that they spell is found
-pub found : (bytes spelling : List ℕ) (words : List Word) (i : ℕ) (d : Word) (same : Bool) → i < length words
-    → spelling ≡ spelling_of (get_or words i d) → same ≡ is_same bytes spelling → same ≡ true
-    → Some (get_or words i d) ≡ word_in bytes (drop i words)
-found bytes spelling words i d same lt s e h = sym (word_at bytes spelling words i d same true lt s e h)
+pub that_word : (w : Word) → word_of (spelling_of w) ≡ Some w
+unfolding word_of
+that_word word.Interface = refl
+that_word word.End = refl
+that_word word.Type = refl
+that_word word.Exception = refl
+that_word word.Procedure = refl
+that_word word.Var = refl
+that_word word.In = refl
+that_word word.Out = refl
+that_word word.Raises = refl
+that_word word.Boolean = refl
+that_word word.Byte = refl
+that_word word.Char = refl
+that_word word.Cardinal = refl
+that_word word.Integer = refl
+that_word word.Longcard = refl
+that_word word.Array = refl
+that_word word.Of = refl
+that_word word.Upto = refl
+that_word word.Record = refl
+
+pub spelled_word : (bytes : List ℕ) (found : Option Word) → MatchOption found ((w : Word) → bytes ≢ spelling_of w) (λ w. bytes ≡ spelling_of w) → found ≡ word_of bytes
+spelled_word bytes None h = sym (no_word bytes h)
+spelled_word bytes (Some w) h = sym (ap word_of h ∙ that_word w)

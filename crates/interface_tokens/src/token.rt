@@ -1,7 +1,8 @@
 //! Tokens.
 
-ghost use Rattle.std.specs.Prelude.{◌≡◌};
+ghost use Rattle.std.specs.Prelude.{◌≡◌, ◌≢◌, MatchOption};
 ghost use Rattle.interface_tokens.specs.Tokens.{sign_of, spelling_of, word_of};
+ghost use Rattle.interface_tokens.specs.declared.token.Word.{Word};
 
 use crate::ident::Ident;
 use crate::place::Place;
@@ -63,67 +64,39 @@ pub struct Spot {
     pub place: Place,
 }
 
-/// The reserved words.
-const WORDS: [Word; 19] = [
-    Word::Interface,
-    Word::End,
-    Word::Type,
-    Word::Exception,
-    Word::Procedure,
-    Word::Var,
-    Word::In,
-    Word::Out,
-    Word::Raises,
-    Word::Boolean,
-    Word::Byte,
-    Word::Char,
-    Word::Cardinal,
-    Word::Integer,
-    Word::Longcard,
-    Word::Array,
-    Word::Of,
-    Word::Upto,
-    Word::Record,
-];
-
-impl Word {
-    fn spelling(self) -> &'static [u8]
-        ensures { result.now ≡ spelling_of self }
-    {
-        match self {
-            Word::Interface => b"INTERFACE",
-            Word::End => b"END",
-            Word::Type => b"TYPE",
-            Word::Exception => b"EXCEPTION",
-            Word::Procedure => b"PROCEDURE",
-            Word::Var => b"VAR",
-            Word::In => b"IN",
-            Word::Out => b"OUT",
-            Word::Raises => b"RAISES",
-            Word::Boolean => b"BOOLEAN",
-            Word::Byte => b"BYTE",
-            Word::Char => b"CHAR",
-            Word::Cardinal => b"CARDINAL",
-            Word::Integer => b"INTEGER",
-            Word::Longcard => b"LONGCARD",
-            Word::Array => b"ARRAY",
-            Word::Of => b"OF",
-            Word::Upto => b"UPTO",
-            Word::Record => b"RECORD",
-        }
-    }
-}
-
 /// The word that some bytes are, if it is reserved.
 pub(crate) fn word_of(bytes: &[u8]) -> Option<Word>
     ensures { result ≡ word_of bytes.now }
 {
-    for word in &WORDS {
-        if bytes == word.spelling() {
-            return Some(*word);
-        }
+    spelled(bytes)
+}
+
+/// The word with this spelling.
+fn spelled(bytes: &[u8]) -> Option<Word>
+    ensures { MatchOption result ((w : Word) → bytes.now ≢ spelling_of w) (λ w. bytes.now ≡ spelling_of w) }
+{
+    match bytes {
+        b"INTERFACE" => Some(Word::Interface),
+        b"END" => Some(Word::End),
+        b"TYPE" => Some(Word::Type),
+        b"EXCEPTION" => Some(Word::Exception),
+        b"PROCEDURE" => Some(Word::Procedure),
+        b"VAR" => Some(Word::Var),
+        b"IN" => Some(Word::In),
+        b"OUT" => Some(Word::Out),
+        b"RAISES" => Some(Word::Raises),
+        b"BOOLEAN" => Some(Word::Boolean),
+        b"BYTE" => Some(Word::Byte),
+        b"CHAR" => Some(Word::Char),
+        b"CARDINAL" => Some(Word::Cardinal),
+        b"INTEGER" => Some(Word::Integer),
+        b"LONGCARD" => Some(Word::Longcard),
+        b"ARRAY" => Some(Word::Array),
+        b"OF" => Some(Word::Of),
+        b"UPTO" => Some(Word::Upto),
+        b"RECORD" => Some(Word::Record),
+        _ => None,
     }
-    None
 }
 
 /// The sign that a byte is.
