@@ -247,7 +247,8 @@ fn a_long_argument_comes_in_two_pieces(rt: HostRuntime) -> Result<(), Fail> {
     let alloc = rt.alloc();
     let mut server = booted(alloc)?;
     let text = counted_text(alloc, 1440)?;
-    let (first, last) = text.as_slice().split_at(1440);
+    let first = text.get(..1440).ok_or("a full piece")?;
+    let last = text.get(1440..).ok_or("a last piece")?;
     assert!(rt; comes(alloc, &mut server, TEXT, first, &BEGINS)?);
     assert!(rt; comes(alloc, &mut server, TEXT, first, &COMES_AGAIN)?);
     assert!(rt; comes(alloc, &mut server, TEXT_END, last, &ENDS)?);
