@@ -254,10 +254,10 @@ const A0: Seen = Sends(Kind::Ack, 0, 0);
 
 const A1: Seen = Sends(Kind::Ack, 1, 0);
 
-/// A reply of one piece is whole, one of two pieces, and a signal.
-const R1: Seen = Seen::Returned(5);
+/// A reply of one piece, one of two pieces that are joined, and a signal.
+const SHORT: Seen = Seen::Returned(5);
 
-const R2: Seen = Seen::Returned(1445);
+const LONG: Seen = Seen::Returned(1445);
 
 const X: Seen = Seen::Signalled(2);
 
@@ -266,9 +266,9 @@ static ROWS: [(At, [Seen; 12]); 8] = [
     (At::Idle, [S; 12]),
     (At::Sending0, [C1, U, U, U, U, U, U, U, F, U, U, S]),
     (At::Sending1, [U, C2, U, U, U, U, U, U, F, U, U, S]),
-    (At::Sending2, [U, U, W, R1, X, A0, U, U, F, U, U, S]),
-    (At::Waiting, [U, U, W, R1, X, A0, U, U, F, U, U, S]),
-    (At::Receiving1, [U, U, U, U, U, U, A1, R2, F, U, U, S]),
+    (At::Sending2, [U, U, W, SHORT, X, A0, U, U, F, U, U, S]),
+    (At::Waiting, [U, U, W, SHORT, X, A0, U, U, F, U, U, S]),
+    (At::Receiving1, [U, U, U, U, U, U, A1, LONG, F, U, U, S]),
     (At::Receiving2, [U, U, U, U, U, U, U, U, F, U, U, S]),
     (At::Binding, [U, U, U, U, U, U, U, U, U, B, N, S]),
 ];
