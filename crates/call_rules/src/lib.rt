@@ -8,11 +8,7 @@
 mod caller;
 mod entry;
 mod judgement;
-#[cfg(test)]
-mod tests;
 mod worker;
-#[cfg(test)]
-mod worker_tests;
 
 ghost use Rattle.std.specs.Prelude.{◌≡◌, ◌<◌, ◌⊎◌};
 ghost use Rattle.call_rules.specs.Packet.{Fields};

@@ -17,8 +17,8 @@ use Rattle.clap.specs.Walk.{Text, Walk, bundle_met, finished, settled, walked}
 use Rattle.clap.specs.declared.error.kind.ErrorKind.TheVariants.{DisplayHelp, TooManyValues, UnknownArgument}
 use Rattle.std.specs.List.{before_first}
 use Rattle.clap.specs.declared.builder.value_parser.ValueParser.TheVariants as parser
-use Rattle.storm_model.specs.declared.options.StormOptions.{StormOptions}
-use Rattle.storm_model.specs.declared.options.TheConstants.{MOST_CALLS}
+use Rattle.replay_model.specs.declared.options.StormOptions.{StormOptions}
+use Rattle.replay_model.specs.declared.options.TheConstants.{MOST_CALLS}
 use Rattle.command_words.proofs.Lexing.{Dash, Ends, Form, Long, Plain, Short, form}
 use Rattle.command_words.proofs.Spelled.{calls_parser, seed_parser, storm_read}
 use Rattle.command_words.proofs.Steps.{past, stands}

@@ -13,7 +13,7 @@ use Rattle.clap.specs.ValueTests.{accepts}
 use Rattle.clap.specs.Walk.{Text, Walk, finished, is_empty, nothing_held, one_of, settled, walk, walk_from, walked}
 use Rattle.clap.specs.declared.builder.value_parser.ValueParser.{ValueParser}
 use Rattle.clap.specs.declared.builder.value_parser.ValueParser.TheVariants as parser
-use Rattle.storm_model.specs.declared.options.TheConstants.{MOST_CALLS}
+use Rattle.replay_model.specs.declared.options.TheConstants.{MOST_CALLS}
 use Rattle.command_words.proofs.Commands.{asks, asks_for_storm, taken_by}
 use Rattle.command_words.proofs.Steps.{IsValue, Steps, calls_in_one_behind, calls_in_one_first, calls_in_one_second, calls_name_behind, calls_name_first, calls_name_second, calls_row, calls_text_first, calls_text_second, options_with, past, seed_in_one_behind, seed_in_one_first, seed_in_one_second, seed_name_behind, seed_name_first, seed_name_second, seed_row, seed_text_first, seed_text_second, shape, stands, to_end, waits}
 use Rattle.command_words.specs.Spellings.{IsAlone, IsEnd, IsNumber, IsOption, IsStorm}

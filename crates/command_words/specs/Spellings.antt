@@ -3,7 +3,7 @@
 use Rattle.std.specs.Prelude.{◌≡◌, ◌≤◌, ℕ, ◌⊎◌, List, [], ◌∷◌, ◌++◌, codes}
 use Rattle.std.specs.Str.Parse.{IsNumeral, digits_value, without_leading_plus}
 use Rattle.clap.specs.Walk.{Text}
-use Rattle.storm_model.specs.declared.options.TheConstants.{MOST_CALLS}
+use Rattle.replay_model.specs.declared.options.TheConstants.{MOST_CALLS}
 
 -- a text that writes a number in a range: decimal digits, behind a plus sign or none
 pub record IsNumber (least most : ℕ) (text : Text) (n : ℕ) : Type 0 where

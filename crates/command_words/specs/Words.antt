@@ -9,7 +9,7 @@ use Rattle.clap.specs.Simple.{App, matches_of, new_app, new_rule, with_rule}
 use Rattle.clap.specs.Walk.{Rule, Text, is_empty, one_of}
 use Rattle.clap.specs.declared.builder.action.ArgAction.TheVariants.{Set}
 use Rattle.clap.specs.declared.builder.value_parser.ValueParser.TheVariants as parser
-use Rattle.storm_model.specs.declared.options.TheConstants.{MOST_CALLS}
+use Rattle.replay_model.specs.declared.options.TheConstants.{MOST_CALLS}
 use Rattle.command_words.specs.declared.command.Command.{Command}
 use Rattle.command_words.specs.declared.command.Command.TheVariants as command
 

@@ -1,6 +1,6 @@
 //! What the words ask for.
 
-use storm_model::StormOptions;
+use replay_model::StormOptions;
 
 /// A command of the program, with its options.
 #[derive(Clone, Copy, PartialEq, Eq, Debug)]

@@ -5,7 +5,7 @@ ghost use Rattle.command_words.specs.Spellings.{IsAlone, IsStorm};
 ghost use Rattle.command_words.specs.Words.{IsInRange, are_taken, command_of};
 ghost use Rattle.command_words.specs.declared.command.Command.{Command};
 ghost use Rattle.command_words.specs.declared.command.Command.TheVariants as command;
-ghost use Rattle.storm_model.specs.declared.options.StormOptions.{StormOptions};
+ghost use Rattle.replay_model.specs.declared.options.StormOptions.{StormOptions};
 
 /// A command without options is asked for by its name alone.
 pub fn a_name_alone_asks_for_its_command()

@@ -13,6 +13,3 @@ pub use laws::{
     only_what_is_spelled_is_taken,
 };
 pub use reading::read_command;
-
-#[cfg(test)]
-mod tests;

@@ -4,14 +4,14 @@ ghost use Rattle.std.specs.Prelude.{◌≡◌, ◌≤◌, Some, None, true, fals
 ghost use Rattle.clap.specs.Words.{IsPlainArg, found_of, matches_of, rows_of, rule_of};
 ghost use Rattle.command_words.specs.Parsed.{HasNumber};
 ghost use Rattle.command_words.specs.Words.{are_taken, are_taken_by, command_of, name_in, no_options, number_given, number_option, storm_options, IsInRange};
-ghost use Rattle.storm_model.specs.declared.options.TheConstants.{MOST_CALLS};
+ghost use Rattle.replay_model.specs.declared.options.TheConstants.{MOST_CALLS};
 
 use crate::command::Command;
 use crate::fault::WordsFault;
 use clap::builder::ValueParser;
 use clap::{Arg, ArgAction, ArgMatches};
+use replay_model::{MOST_CALLS, StormOptions};
 use std::alloc::Global;
-use storm_model::{MOST_CALLS, StormOptions};
 
 /// Reads the words behind the program's name.
 pub fn read_command(alloc: Global, words: &[String]) -> Result<Command, WordsFault>

@@ -13,8 +13,8 @@ use Rattle.replay_model.specs.declared.event.Event.{Event}
 use Rattle.replay_model.specs.declared.event.Event.TheVariants as event
 use Rattle.replay_model.specs.World.{World, packet_at}
 use Rattle.replay_world.specs.Kept.{kept_at}
-use Rattle.storm_model.specs.Draws.{Drawn, draw}
-use Rattle.storm_model.specs.Rounds.{Round, asks, calls_with, damage_round, damages, deliver_round, is_idle_at, machine_of, process_of, restart_round, round, round_of, starts_round, tick_round, when, work_round}
+use Rattle.replay_model.specs.Draws.{Drawn, draw}
+use Rattle.replay_model.specs.Rounds.{Round, asks, calls_with, damage_round, damages, deliver_round, is_idle_at, machine_of, process_of, restart_round, round, round_of, starts_round, tick_round, when, work_round}
 use Rattle.commands.specs.Rounds.{asked_events, frame_length}
 
 -- a number that was drawn, with the generator's state behind it

@@ -20,9 +20,9 @@ use Rattle.replay_packets.specs.Sent.{sent_of}
 use Rattle.replay_world.specs.Kept.{forgets}
 use Rattle.replay_world.specs.Stands.{Stands}
 use Rattle.replay_world.specs.Stored.{Stored, AllBelow, RoseByAtMost, packets_of}
-use Rattle.storm_model.specs.declared.options.StormOptions.{StormOptions}
-use Rattle.storm_model.specs.OpenCalls.{lost_in, lost_over}
-use Rattle.storm_model.specs.Rounds.{Storm, Round, after_round, after_rounds, calm, round, rounds_of, storm, world_of}
+use Rattle.replay_model.specs.declared.options.StormOptions.{StormOptions}
+use Rattle.replay_model.specs.OpenCalls.{lost_in, lost_over}
+use Rattle.replay_model.specs.Rounds.{Storm, Round, after_round, after_rounds, calm, round, rounds_of, storm, world_of}
 use Rattle.commands.specs.declared.rounds.Player.{Player}
 use Rattle.commands.specs.Rounds.{HasLast, frame_length, Plays, Reached, storm_at, world_at}
 use Rattle.commands.proofs.DrawnRounds.{in_bag}

@@ -11,9 +11,9 @@ use Rattle.replay_model.specs.declared.limits.TheConstants.{LAST_BIT}
 use Rattle.replay_model.specs.Forms.{InRange, IsProcess}
 use Rattle.replay_model.specs.Step.{run, step}
 use Rattle.replay_model.specs.World.{World, packet_at}
-use Rattle.storm_model.specs.declared.options.TheConstants.{MOST_CALLS}
-use Rattle.storm_model.specs.Draws.{Drawn, draw}
-use Rattle.storm_model.specs.Rounds.{Storm, Round, after_round, after_rounds, asks, calm, damage_round, damages, deliver_round, machine_of, process_of, restart_round, round, round_of, rounds_of, starts_round, storm, tick_round, when, work_round, world_of}
+use Rattle.replay_model.specs.declared.options.TheConstants.{MOST_CALLS}
+use Rattle.replay_model.specs.Draws.{Drawn, draw}
+use Rattle.replay_model.specs.Rounds.{Storm, Round, after_round, after_rounds, asks, calm, damage_round, damages, deliver_round, machine_of, process_of, restart_round, round, round_of, rounds_of, starts_round, storm, tick_round, when, work_round, world_of}
 use Rattle.commands.specs.Rounds.{frame_length}
 use Rattle.commands.proofs.DrawnRounds.{in_bag}
 use Rattle.commands.proofs.Growth.{Grown, IsUpTo, step-grown}

@@ -10,9 +10,9 @@ use Rattle.replay_model.specs.Step.{run}
 use Rattle.replay_model.specs.World.{World}
 use Rattle.replay_world.specs.Stands.{Stands}
 use Rattle.replay_world.specs.Stored.{Stored, AllBelow, RoseByAtMost, packets_of}
-use Rattle.storm_model.specs.declared.options.TheConstants.{MOST_CALLS}
-use Rattle.storm_model.specs.OpenCalls.{lost_over}
-use Rattle.storm_model.specs.Rounds.{Storm, Round, calm, world_of, after_rounds, rounds_of, when, calls_with, is_idle_at}
+use Rattle.replay_model.specs.declared.options.TheConstants.{MOST_CALLS}
+use Rattle.replay_model.specs.OpenCalls.{lost_over}
+use Rattle.replay_model.specs.Rounds.{Storm, Round, calm, world_of, after_rounds, rounds_of, when, calls_with, is_idle_at}
 use Rattle.commands.specs.declared.rounds.Player.{Player}
 
 -- the storm that was played so far, and the world that it has reached

@@ -1,9 +1,9 @@
 -- What `storm` does, by what its sink tells, and by its count of faults.
 use Rattle.std.specs.Prelude.{◌≡◌, ℕ, ◌<◌, ◌≤◌, List, [], length, take, ◌⊎◌}
 use Rattle.replay_model.specs.Once.{Once}
-use Rattle.storm_model.specs.declared.options.TheConstants.{MOST_CALLS}
-use Rattle.storm_model.specs.Rounds.{after_rounds, rounds_of, storm, world_of}
-use Rattle.storm_model.specs.Summary.{IsBalanced, storm_text, summary_of}
+use Rattle.replay_model.specs.declared.options.TheConstants.{MOST_CALLS}
+use Rattle.replay_model.specs.Rounds.{after_rounds, rounds_of, storm, world_of}
+use Rattle.replay_model.specs.Summary.{IsBalanced, storm_text, summary_of}
 use Rattle.commands.specs.declared.status.Status.{Status}
 use Rattle.commands.specs.declared.status.Status.TheVariants as status
 use Rattle.commands.specs.Outside.{Output, WriteFailed, Wrote, WroteUnlessFailed}

@@ -3,13 +3,12 @@
 ghost use Rattle.std.specs.Prelude.{◌≡◌, ◌≤◌, ◌<◌, ◌+◌, ◌-◌, ◌^◌, ℕ, min, IfSome};
 ghost use Rattle.replay_model.specs.Forms.{IsAskable, IsProcess};
 ghost use Rattle.replay_model.specs.World as model;
-ghost use Rattle.storm_model.specs.Draws.{draw};
-ghost use Rattle.storm_model.specs.Rounds.{asks, machine_of, process_of};
+ghost use Rattle.replay_model.specs.Draws.{draw};
+ghost use Rattle.replay_model.specs.Rounds.{asks, machine_of, process_of};
 ghost use Rattle.commands.specs.Rounds.{asked_events};
 
-use replay_model::CallWord;
 use replay_model::limits::{FIRST_CLIENT, LAST_PROCESS};
-use storm_model::Draws;
+use replay_model::{CallWord, Draws};
 
 /// From how many of the last packets one is drawn.
 pub const RECENT: u64 = 64;

@@ -5,9 +5,9 @@ ghost use Rattle.std.specs.Option.{option_map};
 ghost use Rattle.replay_model.specs.declared.limits.TheConstants.{LAST_BIT};
 ghost use Rattle.replay_model.specs.World.{packet_at};
 ghost use Rattle.replay_model.specs.Forms.{IsAskable, IsProcess};
-ghost use Rattle.storm_model.specs.declared.options.TheConstants.{MOST_CALLS};
-ghost use Rattle.storm_model.specs.Rounds.{calm, damage_round, deliver_round, restart_round, round_of, rounds_of, starts_round, tick_round, work_round};
-ghost use Rattle.storm_model.specs.Summary.{summary_of, summary_over};
+ghost use Rattle.replay_model.specs.declared.options.TheConstants.{MOST_CALLS};
+ghost use Rattle.replay_model.specs.Rounds.{calm, damage_round, deliver_round, restart_round, round_of, rounds_of, starts_round, tick_round, work_round};
+ghost use Rattle.replay_model.specs.Summary.{summary_of, summary_over};
 ghost use Rattle.commands.specs.Rounds.{Plays, Reached, asked_events, frame_length, storm_at, world_at};
 
 use crate::drawing::{Place, draw_place, draw_recent, draw_word};
@@ -15,12 +15,11 @@ use crate::summary::Summary;
 use binder::read_name;
 use once_law::packets_survive_any_events;
 use replay_model::limits::{LAST_CLIENT, LAST_WORKER, LONG_BUFFERS, SERVER_MACHINE, SMALL_BUFFERS};
-use replay_model::{CallWord, Event};
+use replay_model::{CallWord, Draws, Event, ROUNDS_A_CALL, StormOptions};
 use replay_world::World;
 use rpc_header::a_spelling_is_32_bytes;
 use std::alloc::{AllocError, Global};
 use storm_law::each_call_has_one_end;
-use storm_model::{Draws, ROUNDS_A_CALL, StormOptions};
 
 /// The ticks of a round.
 const TICKS: u16 = 4;

@@ -1,8 +1,8 @@
 //! `storm`: random events are played on the world, and their summary is written.
 
 ghost use Rattle.std.specs.Prelude.{◌≡◌, ◌≤◌, IfOk};
-ghost use Rattle.storm_model.specs.declared.options.TheConstants.{MOST_CALLS};
-ghost use Rattle.storm_model.specs.Summary.{storm_text};
+ghost use Rattle.replay_model.specs.declared.options.TheConstants.{MOST_CALLS};
+ghost use Rattle.replay_model.specs.Summary.{storm_text};
 ghost use Rattle.commands.specs.Outside.{output};
 ghost use Rattle.commands.specs.Storm.{Storms};
 
@@ -12,10 +12,10 @@ use crate::status::Status;
 use crate::summary::put_summary;
 use ff_io::{Sink, write_all};
 use once_law::{once_after_any_events, packets_survive_any_events};
+use replay_model::StormOptions;
 use rpc_header::a_spelling_is_32_bytes;
 use std::alloc::{AllocError, Global};
 use storm_law::each_call_has_one_end;
-use storm_model::StormOptions;
 
 /// Plays the storm of these options, and writes its summary. Where it can't, a fault line stands last, unless writing
 /// fails.

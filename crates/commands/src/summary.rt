@@ -1,12 +1,12 @@
 //! The summary of a storm.
 
 ghost use Rattle.std.specs.Prelude.{◌≡◌, ◌++◌, OnOk};
-ghost use Rattle.storm_model.specs.Summary.{count_line, summary_text};
+ghost use Rattle.replay_model.specs.Summary.{count_line, summary_text};
 
 use replay_lines::Print;
+use replay_model::StormOptions;
 use std::alloc::AllocError;
 use std::marker::Model;
-use storm_model::StormOptions;
 
 /// What became of the calls of a storm, and how many packets were sent.
 #[derive(Drop)]
@@ -32,7 +32,7 @@ pub struct Summary {
 }
 
 impl Model for Summary {
-    ghost use Rattle.storm_model.specs.Summary.{Summary};
+    ghost use Rattle.replay_model.specs.Summary.{Summary};
 
     ghost Value = { Summary };
 

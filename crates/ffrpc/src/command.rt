@@ -8,7 +8,7 @@ ghost use Rattle.commands.specs.Replay.{Replays};
 ghost use Rattle.commands.specs.Status.{fault_line, status_of_words};
 ghost use Rattle.commands.specs.Storm.{Storms};
 ghost use Rattle.commands.specs.Stubs.{Stubs};
-ghost use Rattle.storm_model.specs.declared.options.StormOptions.{StormOptions};
+ghost use Rattle.replay_model.specs.declared.options.StormOptions.{StormOptions};
 
 use command_words::{Command, WordsFault, read_command};
 use commands::{Status, end_with, end_without_memory, run_replay, run_storm, run_stubs};

@@ -47,3 +47,5 @@ mod stream_tests;
 mod stubs_tests;
 #[cfg(test)]
 mod tests;
+#[cfg(test)]
+mod words_tests;

@@ -1,12 +1,12 @@
 //! Storms: the summaries of worked storms, and a sink that fails.
 
 ghost use Rattle.std.specs.Prelude.{◌≤◌};
-ghost use Rattle.storm_model.specs.declared.options.TheConstants.{MOST_CALLS};
+ghost use Rattle.replay_model.specs.declared.options.TheConstants.{MOST_CALLS};
 
 use commands::{Status, run_storm};
 use ff_io::{MemorySink, Short};
+use replay_model::StormOptions;
 use std::alloc::{AllocError, Global};
-use storm_model::StormOptions;
 
 /// The status of a storm, and what it has written, where a sink takes so many bytes in a write, and these writes fail.
 fn stormed(

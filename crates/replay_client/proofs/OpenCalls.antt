@@ -3,7 +3,7 @@ use Rattle.std.proofs.Common.{◌≡◌, ℕ, ◌+◌, ◌<◌, List, [], ◌∷
 use Rattle.std.proofs.lemmas.List.{take_more}
 use Rattle.call_rules.specs.Caller.{State, Idle, Binding, Sending, Waiting, Receiving, is_idle, is_binding}
 use Rattle.replay_model.specs.Process.{Line}
-use Rattle.storm_model.specs.OpenCalls.{open_in, open_of_lines}
+use Rattle.replay_model.specs.OpenCalls.{open_in, open_of_lines}
 
 pub open_in-idle : (s : State) → is_idle s ≡ true → 0 ≡ open_in s
 open_in-idle Idle is = refl

@@ -9,7 +9,7 @@ ghost use Rattle.call_rules.specs.Packet.{call_of, fields_of};
 ghost use Rattle.replay_model.specs.World as model;
 ghost use Rattle.replay_model.specs.Process as process;
 ghost use Rattle.replay_model.specs.Step as step;
-ghost use Rattle.storm_model.specs.OpenCalls.{open_in};
+ghost use Rattle.replay_model.specs.OpenCalls.{open_in};
 
 use crate::task::Task;
 use crate::told::{Cause, Said, Told};

@@ -6,8 +6,8 @@ ghost use Rattle.replay_model.specs.World as model;
 ghost use Rattle.replay_model.specs.World.{numbered};
 ghost use Rattle.replay_model.specs.Step as step;
 ghost use Rattle.replay_model.specs.Forms.{IsAskable};
-ghost use Rattle.storm_model.specs.OpenCalls.{open_of};
-ghost use Rattle.storm_model.specs.Rounds.{is_idle_line};
+ghost use Rattle.replay_model.specs.OpenCalls.{open_of};
+ghost use Rattle.replay_model.specs.Rounds.{is_idle_line};
 
 use crate::line::{ClientLine, Took};
 use crate::told::Told;

@@ -6,7 +6,7 @@ ghost use Rattle.replay_model.specs.World as model;
 ghost use Rattle.replay_model.specs.Step as step;
 ghost use Rattle.replay_model.specs.Transcript.{lines};
 ghost use Rattle.replay_model.specs.Forms.{InRange, IsAskable};
-ghost use Rattle.storm_model.specs.OpenCalls.{lost_in};
+ghost use Rattle.replay_model.specs.OpenCalls.{lost_in};
 ghost use Rattle.replay_world.specs.Stored.{AllBelow, RoseByAtMost, Keeps};
 ghost use Rattle.replay_world.specs.Kept.{HasNamed};
 ghost use Rattle.replay_world.specs.Stands.{Stands, AreClients};

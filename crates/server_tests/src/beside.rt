@@ -2,7 +2,7 @@
 
 use crate::trial::{
     ACK, ACKED, Added, CALL, CLIENT, CallerPacket, Line, PROBE, SERVICE, ServerPacket, booted,
-    first_other, header_of, step_of, take,
+    first_other, first_other_at_boot, header_of, step_of, take,
 };
 use call_rules::{Did, Unfit};
 use ff_io::Station;
@@ -158,36 +158,32 @@ fn activities_without_an_entry(rt: HostRuntime) -> Result<(), Fail> {
     Ok(())
 }
 
-/// How many calls are taken until there is no room, of at most 100.
-fn calls_taken(alloc: Global, server: &mut ServerMachine) -> Result<usize, Fail> {
-    let header = header_of(CALL)?;
-    for i in 0..100 {
-        if !take(alloc, server, CLIENT, header, &[])? {
-            return Ok(i);
-        }
-    }
-    Ok(100)
-}
+const COMES: Line = Line::Take(CALL);
+
+/// 64 calls come.
+static FILLED: [Line; 64] = [COMES; 64];
+
+/// Then there is no room until a worker takes one of them.
+static FULL: [Line; 4] = [
+    Line::NoRoom(CALL),
+    Line::One(Did::Claims, Added::Nothing),
+    Line::Take(CALL),
+    Line::NoRoom(CALL),
+];
 
 #[test]
 fn at_most_64_packets_are_ready(rt: HostRuntime) -> Result<(), Fail> {
-    let alloc = rt.alloc();
-    let mut server = booted(alloc)?;
-    assert!(rt; calls_taken(alloc, &mut server)? == 64);
-    let step = step_of(alloc, &mut server, 4)?;
-    assert!(rt; step == Some((Did::Claims, Added::Nothing)));
-    assert!(rt; calls_taken(alloc, &mut server)? == 1);
+    let mut server = booted(rt.alloc())?;
+    assert!(rt; first_other(rt.alloc(), &mut server, &FILLED)?.is_none());
+    assert!(rt; first_other(rt.alloc(), &mut server, &FULL)?.is_none());
     Ok(())
 }
 
+static WITHOUT_A_PACKET: [Line; 2] = [Line::Idle(4), Line::NoWorker(5)];
+
 #[test]
 fn workers_without_a_packet(rt: HostRuntime) -> Result<(), Fail> {
-    let alloc = rt.alloc();
-    let mut server = booted(alloc)?;
-    let idle = server.work(alloc, 4)?;
-    assert!(rt; matches!(&idle, Worked::Idle));
-    let impossible = server.work(alloc, 5)?;
-    assert!(rt; matches!(&impossible, Worked::Impossible));
+    assert!(rt; first_other_at_boot(rt.alloc(), &WITHOUT_A_PACKET)?.is_none());
     Ok(())
 }
 

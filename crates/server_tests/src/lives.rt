@@ -2,75 +2,69 @@
 
 use crate::trial::{
     ACK, ACKED, Added, CALL, CLIENT, CallerPacket, EARLIER, FIRST, LATER, Line, PROBE, RESULT,
-    SECOND, ServerPacket, booted, first_other, header_of, name, take,
+    SECOND, ServerPacket, booted, first_other, first_other_at_boot, header_of, take,
 };
 use Added::{Nothing, Packet, Rejection, Run};
-use Line::{Idle, One, Restart, Take, Withdraw};
+use Line::{Export, Idle, NoExport, NoRestart, One, Restart, Take, Withdraw};
 use binder::ExportFault;
 use call_rules::Did;
 use call_rules::Unfit::Same;
 use replay_packets::counted_text;
 use replay_server::ServerMachine;
-use rpc_header::{Export, Kind};
+use rpc_header::Kind;
 use std::alloc::Global;
 use std::test::Fail;
 
-/// The test service is exported by a name, in a second.
-fn export(
-    alloc: Global,
-    server: &mut ServerMachine,
-    text: &[u8],
-    second: u32,
-) -> Result<Result<Export, ExportFault>, Fail> {
-    Ok(server.export(alloc, name(text)?, second)?)
-}
+/// A server that has booted exports `main`.
+static EXPORTED: [Line; 3] = [
+    NoExport(b"main", 1, ExportFault::Exists),
+    NoExport(b"aux", 1, ExportFault::TooFast { next: 2, now: 1 }),
+    Export(b"aux", 2, 2, 1),
+];
 
 #[test]
 fn a_name_is_exported_once_and_not_too_fast(rt: HostRuntime) -> Result<(), Fail> {
-    let alloc = rt.alloc();
-    let mut server = booted(alloc)?;
-    let too_fast = ExportFault::TooFast { next: 2, now: 1 };
-    let second = Export {
-        identifier: 2,
-        index: 1,
-    };
-    assert!(rt; export(alloc, &mut server, b"main", 1)? == Err(ExportFault::Exists));
-    assert!(rt; export(alloc, &mut server, b"aux", 1)? == Err(too_fast));
-    assert!(rt; export(alloc, &mut server, b"aux", 2)? == Ok(second));
+    assert!(rt; first_other_at_boot(rt.alloc(), &EXPORTED)?.is_none());
     Ok(())
 }
 
-/// How many names of one letter are exported until one is refused, of at most 20.
-fn letters_exported(alloc: Global, server: &mut ServerMachine) -> Result<u8, Fail> {
-    for i in 0..20 {
-        if export(alloc, server, &[b'a' + i], 16)?.is_err() {
-            return Ok(i);
-        }
-    }
-    Ok(20)
-}
+/// All rows are taken, and one becomes free.
+static SIXTEEN: [Line; 18] = [
+    Export(b"b", 16, 2, 1),
+    Export(b"c", 16, 3, 2),
+    Export(b"d", 16, 4, 3),
+    Export(b"e", 16, 5, 4),
+    Export(b"f", 16, 6, 5),
+    Export(b"g", 16, 7, 6),
+    Export(b"h", 16, 8, 7),
+    Export(b"i", 16, 9, 8),
+    Export(b"j", 16, 10, 9),
+    Export(b"k", 16, 11, 10),
+    Export(b"l", 16, 12, 11),
+    Export(b"m", 16, 13, 12),
+    Export(b"n", 16, 14, 13),
+    Export(b"o", 16, 15, 14),
+    Export(b"p", 16, 16, 15),
+    NoExport(b"z", 16, ExportFault::Full),
+    Withdraw(b"main", Some(0)),
+    Export(b"z", 17, 17, 0),
+];
 
 #[test]
 fn at_most_16_names_are_exported(rt: HostRuntime) -> Result<(), Fail> {
-    let alloc = rt.alloc();
-    let mut server = booted(alloc)?;
-    assert!(rt; letters_exported(alloc, &mut server)? == 15);
-    assert!(rt; export(alloc, &mut server, b"z", 16)? == Err(ExportFault::Full));
-    assert!(rt; server.withdraw(name(b"main")?) == Some(0));
-    let in_its_row = Export {
-        identifier: 17,
-        index: 0,
-    };
-    assert!(rt; export(alloc, &mut server, b"z", 17)? == Ok(in_its_row));
+    assert!(rt; first_other_at_boot(rt.alloc(), &SIXTEEN)?.is_none());
     Ok(())
 }
 
+static WITHDRAWN_ONCE: [Line; 3] = [
+    Withdraw(b"aux", None),
+    Withdraw(b"main", Some(0)),
+    Withdraw(b"main", None),
+];
+
 #[test]
 fn a_name_that_is_not_exported_is_not_withdrawn(rt: HostRuntime) -> Result<(), Fail> {
-    let mut server = booted(rt.alloc())?;
-    assert!(rt; server.withdraw(name(b"aux")?).is_none());
-    assert!(rt; server.withdraw(name(b"main")?) == Some(0));
-    assert!(rt; server.withdraw(name(b"main")?).is_none());
+    assert!(rt; first_other_at_boot(rt.alloc(), &WITHDRAWN_ONCE)?.is_none());
     Ok(())
 }
 
@@ -82,7 +76,7 @@ const REJECT: ServerPacket = ServerPacket {
 };
 
 /// The test service, as it is exported next, or at a boot in second 2.
-const SECOND_EXPORT: Export = Export {
+const SECOND_EXPORT: rpc_header::Export = rpc_header::Export {
     identifier: 2,
     index: 0,
 };
@@ -93,13 +87,13 @@ static WITHDRAWN: [Line; 15] = [
     One(Did::Admits, Nothing),
     One(Did::Runs, Run(0, false, 0)),
     One(Did::Replies, Packet(RESULT)),
-    Withdraw,
+    Withdraw(b"main", Some(0)),
     Take(PROBE),
     One(Did::Rejects(1), Rejection(REJECT)),
     Take(LATER),
     One(Did::Rejects(1), Rejection(REJECT)),
     // The name is exported anew, in the same row.
-    Line::Export(2),
+    Export(b"main", 2, 2, 0),
     Take(LATER),
     One(Did::Rejects(1), Rejection(REJECT)),
     Take(CallerPacket {
@@ -111,21 +105,22 @@ static WITHDRAWN: [Line; 15] = [
 
 #[test]
 fn a_withdrawn_export_refuses_its_calls(rt: HostRuntime) -> Result<(), Fail> {
-    let mut server = booted(rt.alloc())?;
-    assert!(rt; first_other(rt.alloc(), &mut server, &WITHDRAWN)?.is_none());
+    assert!(rt; first_other_at_boot(rt.alloc(), &WITHDRAWN)?.is_none());
     Ok(())
 }
 
+/// An export reads the second, also one that is refused.
+static READ: [Line; 5] = [
+    NoRestart(1),
+    NoExport(b"main", 7, ExportFault::Exists),
+    NoRestart(7),
+    Restart(8),
+    NoExport(b"aux", 8, ExportFault::TooFast { next: 9, now: 8 }),
+];
+
 #[test]
 fn a_restart_comes_at_a_later_second_than_any_read(rt: HostRuntime) -> Result<(), Fail> {
-    let alloc = rt.alloc();
-    let mut server = booted(alloc)?;
-    assert!(rt; !server.restart(alloc, 1)?);
-    assert!(rt; export(alloc, &mut server, b"main", 7)? == Err(ExportFault::Exists));
-    assert!(rt; !server.restart(alloc, 7)?);
-    assert!(rt; server.restart(alloc, 8)?);
-    let too_fast = ExportFault::TooFast { next: 9, now: 8 };
-    assert!(rt; export(alloc, &mut server, b"aux", 8)? == Err(too_fast));
+    assert!(rt; first_other_at_boot(rt.alloc(), &READ)?.is_none());
     Ok(())
 }
 
@@ -134,7 +129,7 @@ fn a_restart_comes_at_a_later_second_than_any_read(rt: HostRuntime) -> Result<()
 static RESTARTED: [Line; 9] = [
     Take(CALL),
     Restart(2),
-    Idle,
+    Idle(1),
     Take(CALL),
     One(Did::Rejects(1), Rejection(REJECT)),
     Take(CallerPacket {

@@ -3,7 +3,7 @@
 
 use crate::trial::{
     ACK, ACKED, Added, CALL, CallerPacket, EARLIER, FIRST, LATER, Line, PROBE, RESULT, SECOND,
-    ServerPacket, booted, first_other,
+    ServerPacket, first_other_at_boot,
 };
 use Added::{Nothing, Packet, Run};
 use Line::{One, Take, Two};
@@ -75,8 +75,7 @@ static FETCHED_AGAIN: [Line; 21] = [
 
 #[test]
 fn a_call_runs_and_its_reply_is_fetched_again(rt: HostRuntime) -> Result<(), Fail> {
-    let mut server = booted(rt.alloc())?;
-    assert!(rt; first_other(rt.alloc(), &mut server, &FETCHED_AGAIN)?.is_none());
+    assert!(rt; first_other_at_boot(rt.alloc(), &FETCHED_AGAIN)?.is_none());
     Ok(())
 }
 
@@ -104,8 +103,7 @@ static WHILE_RUNNING: [Line; 19] = [
 
 #[test]
 fn packets_that_come_while_a_call_runs(rt: HostRuntime) -> Result<(), Fail> {
-    let mut server = booted(rt.alloc())?;
-    assert!(rt; first_other(rt.alloc(), &mut server, &WHILE_RUNNING)?.is_none());
+    assert!(rt; first_other_at_boot(rt.alloc(), &WHILE_RUNNING)?.is_none());
     Ok(())
 }
 
@@ -137,8 +135,7 @@ static GATHERED: [Line; 23] = [
 
 #[test]
 fn arguments_are_gathered_piece_by_piece(rt: HostRuntime) -> Result<(), Fail> {
-    let mut server = booted(rt.alloc())?;
-    assert!(rt; first_other(rt.alloc(), &mut server, &GATHERED)?.is_none());
+    assert!(rt; first_other_at_boot(rt.alloc(), &GATHERED)?.is_none());
     Ok(())
 }
 
@@ -171,8 +168,7 @@ static WHILE_GATHERED: [Line; 22] = [
 
 #[test]
 fn packets_that_come_while_arguments_are_gathered(rt: HostRuntime) -> Result<(), Fail> {
-    let mut server = booted(rt.alloc())?;
-    assert!(rt; first_other(rt.alloc(), &mut server, &WHILE_GATHERED)?.is_none());
+    assert!(rt; first_other_at_boot(rt.alloc(), &WHILE_GATHERED)?.is_none());
     Ok(())
 }
 
@@ -202,8 +198,7 @@ static WHILE_SENT: [Line; 21] = [
 
 #[test]
 fn packets_that_come_while_a_reply_is_sent_again(rt: HostRuntime) -> Result<(), Fail> {
-    let mut server = booted(rt.alloc())?;
-    assert!(rt; first_other(rt.alloc(), &mut server, &WHILE_SENT)?.is_none());
+    assert!(rt; first_other_at_boot(rt.alloc(), &WHILE_SENT)?.is_none());
     Ok(())
 }
 
@@ -241,7 +236,6 @@ static LOST: [Line; 28] = [
 
 #[test]
 fn the_slower_of_two_workers_loses(rt: HostRuntime) -> Result<(), Fail> {
-    let mut server = booted(rt.alloc())?;
-    assert!(rt; first_other(rt.alloc(), &mut server, &LOST)?.is_none());
+    assert!(rt; first_other_at_boot(rt.alloc(), &LOST)?.is_none());
     Ok(())
 }

@@ -3,7 +3,7 @@
 
 ghost use Rattle.std.specs.Prelude.{◌≤◌};
 
-use binder::{Name, read_name};
+use binder::{ExportFault, Name, read_name};
 use call_rules::Did;
 use ff_io::Station;
 use replay_packets::{Outgoing, SERVER, arrive};
@@ -118,22 +118,29 @@ pub enum Added {
 }
 
 /// One line of a table.
-#[derive(Clone, Copy)]
 pub enum Line {
     /// A packet comes.
     Take(CallerPacket),
+    /// A packet comes for which there is no room.
+    NoRoom(CallerPacket),
     /// Worker 1 does a step in which it does and adds this.
     One(Did, Added),
     /// Worker 2 does.
     Two(Did, Added),
-    /// Worker 1 finds nothing to do.
-    Idle,
-    /// The test service is exported by its name, in a second.
-    Export(u32),
-    /// That name is withdrawn.
-    Withdraw,
+    /// This worker finds nothing to do.
+    Idle(u8),
+    /// There is no worker of this number.
+    NoWorker(u8),
+    /// The test service is exported by this name, in a second: its identifier, and its row.
+    Export(&'static [u8], u32, u32, u16),
+    /// It isn't exported by this name in a second.
+    NoExport(&'static [u8], u32, ExportFault),
+    /// This name is withdrawn from this row, or has none.
+    Withdraw(&'static [u8], Option<u16>),
     /// The server boots anew, in a second.
     Restart(u32),
+    /// The server doesn't boot anew in this second.
+    NoRestart(u32),
 }
 
 pub fn booted(alloc: Global) -> Result<ServerMachine, Fail> {
@@ -237,25 +244,62 @@ pub fn step_of(
     Ok(told(&server.work(alloc, worker)?))
 }
 
-fn is_idle(worked: &Worked) -> bool {
-    matches!(worked, Worked::Idle)
+/// Whether a worker's step is this one.
+fn steps(
+    alloc: Global,
+    server: &mut ServerMachine,
+    worker: u8,
+    did: Did,
+    added: Added,
+) -> Result<bool, Fail>
+    requires { 1 ≤ worker }
+{
+    Ok(step_of(alloc, server, worker)? == Some((did, added)))
+}
+
+/// Whether a worker finds nothing to do.
+fn rests(alloc: Global, server: &mut ServerMachine, worker: u8) -> Result<bool, Fail> {
+    Ok(worker > 0 && matches!(&server.work(alloc, worker)?, Worked::Idle))
+}
+
+/// Whether there is no worker of a number.
+fn is_no_worker(alloc: Global, server: &mut ServerMachine, worker: u8) -> Result<bool, Fail> {
+    Ok(worker > 0 && matches!(&server.work(alloc, worker)?, Worked::Impossible))
 }
 
 /// The name that some bytes are.
-pub fn name(bytes: &[u8]) -> Result<Name, Fail> {
+fn name(bytes: &[u8]) -> Result<Name, Fail> {
     Ok(read_name(bytes).ok_or("a name")?)
 }
 
+/// Whether an export in a second has this answer.
+fn exports(
+    alloc: Global,
+    server: &mut ServerMachine,
+    text: &[u8],
+    second: u32,
+    answer: Result<Export, ExportFault>,
+) -> Result<bool, Fail> {
+    Ok(server.export(alloc, name(text)?, second)? == answer)
+}
+
 /// Whether a line comes about.
-fn comes_about(alloc: Global, server: &mut ServerMachine, line: Line) -> Result<bool, Fail> {
-    match line {
+fn comes_about(alloc: Global, server: &mut ServerMachine, line: &Line) -> Result<bool, Fail> {
+    match *line {
         Line::Take(packet) => take_packet(alloc, server, packet),
-        Line::One(did, added) => Ok(step_of(alloc, server, 1)? == Some((did, added))),
-        Line::Two(did, added) => Ok(step_of(alloc, server, 2)? == Some((did, added))),
-        Line::Idle => Ok(is_idle(&server.work(alloc, 1)?)),
-        Line::Export(second) => Ok(server.export(alloc, name(b"main")?, second)?.is_ok()),
-        Line::Withdraw => Ok(server.withdraw(name(b"main")?).is_some()),
+        Line::NoRoom(packet) => Ok(!take_packet(alloc, server, packet)?),
+        Line::One(did, added) => steps(alloc, server, 1, did, added),
+        Line::Two(did, added) => steps(alloc, server, 2, did, added),
+        Line::Idle(worker) => rests(alloc, server, worker),
+        Line::NoWorker(number) => is_no_worker(alloc, server, number),
+        Line::Export(text, second, identifier, index) => {
+            let export = Export { identifier, index };
+            exports(alloc, server, text, second, Ok(export))
+        }
+        Line::NoExport(text, second, fault) => exports(alloc, server, text, second, Err(fault)),
+        Line::Withdraw(text, row) => Ok(server.withdraw(name(text)?) == row),
         Line::Restart(second) => Ok(server.restart(alloc, second)?),
+        Line::NoRestart(second) => Ok(!server.restart(alloc, second)?),
     }
 }
 
@@ -266,9 +310,14 @@ pub fn first_other(
     lines: &[Line],
 ) -> Result<Option<usize>, Fail> {
     for (i, line) in lines.iter().enumerate() {
-        if !comes_about(alloc, server, *line)? {
+        if !comes_about(alloc, server, line)? {
             return Ok(Some(i));
         }
     }
     Ok(None)
+}
+
+/// The same, of a server that has booted.
+pub fn first_other_at_boot(alloc: Global, lines: &[Line]) -> Result<Option<usize>, Fail> {
+    first_other(alloc, &mut booted(alloc)?, lines)
 }

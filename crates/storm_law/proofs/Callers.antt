@@ -9,7 +9,7 @@ use Rattle.call_rules.specs.declared.caller.TheConstants.{QUIET_TICKS, TRIES}
 use Rattle.call_rules.specs.Packet.{Fields, Packet, is_same_call}
 use Rattle.call_rules.specs.Caller.{State, Idle, Sending, Waiting, Receiving, Binding, Keep, Last, Bound, Unbound, Step, current_call, is_idle, is_binding, row, unused, acknowledgement, awaits_reply, on_ack, on_result, on_signal, on_reject, on_bound, on_own_packet, sent_again, on_open_tick}
 use Rattle.replay_model.specs.Process.{Line, Said, Returned, Fails, LineStep, acts, started, binds, heard, ticked, gives_up}
-use Rattle.storm_model.specs.OpenCalls.{open_in}
+use Rattle.replay_model.specs.OpenCalls.{open_in}
 
 -- how many calls end with what a process tells
 abbrev pub ended_with : Said → ℕ

@@ -3,7 +3,7 @@ use Rattle.std.proofs.Common.{◌≡◌, ℕ, ◌+◌, List, [], ◌∷◌, ◌+
 use Rattle.replay_model.specs.Record.{Records, Act, Starts, Returns, Fails, recorded, recorded_all}
 use Rattle.replay_model.specs.Step.{Outcome}
 use Rattle.replay_model.specs.World.{World}
-use Rattle.storm_model.specs.OpenCalls.{open_calls}
+use Rattle.replay_model.specs.OpenCalls.{open_calls}
 
 abbrev pub started_by : Act → ℕ
 started_by (Starts s) = 1

@@ -14,7 +14,7 @@ use Rattle.replay_model.specs.Step.{Outcome, impossible, with_client, outcome, s
 use Rattle.replay_model.specs.World.{World, Client, numbered, packet_at, booted_line, booted_client, test_name}
 use Rattle.replay_model.specs.Process.{Line}
 use Rattle.std.specs.List.{range_with_len}
-use Rattle.storm_model.specs.OpenCalls.{open_of_lines, open_of, open_of_clients, lost_of, lost_in}
+use Rattle.replay_model.specs.OpenCalls.{open_of_lines, open_of, open_of_clients, lost_of, lost_in}
 use Rattle.storm_law.proofs.Places.{client_is_set, line_is_set}
 use Rattle.storm_law.proofs.Counting.{Accounts}
 use Rattle.storm_law.proofs.Processes.{either, impossible_accounts, call_accounts, bind_accounts, tick_accounts}

@@ -6,7 +6,7 @@ use Rattle.replay_model.specs.declared.limits.TheConstants.{FIRST_CLIENT}
 use Rattle.replay_model.specs.Process.{Line}
 use Rattle.replay_model.specs.Step.{with_client, with_line}
 use Rattle.replay_model.specs.World.{World, Client, numbered}
-use Rattle.storm_model.specs.OpenCalls.{open_in, open_of_lines, open_of, open_of_clients, open_calls}
+use Rattle.replay_model.specs.OpenCalls.{open_in, open_of_lines, open_of, open_of_clients, open_calls}
 
 -- a number that has an item: it stands at its place
 read_at : {A : Type 0} (from : ℕ) (xs : List A) (n : ℕ) (x : A) → numbered from xs n ≡ Some x → slice_get xs (n - from) ≡ Some x

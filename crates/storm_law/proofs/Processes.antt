@@ -11,7 +11,7 @@ use Rattle.replay_model.specs.Service.{procedure_of, arguments_of}
 use Rattle.binder.specs.Interfaces.{bind_data}
 use Rattle.replay_model.specs.Step.{Outcome, settled, impossible, nothing, with_client, with_line, tells, does, starts, too_fast, call_by, call_event, starts_bind, bind_by, bind_event, tick, ticks, ticks_client, ticks_line, quiet_if_none, tick_event}
 use Rattle.replay_model.specs.World.{World, Client, numbered, number_limit, test_name}
-use Rattle.storm_model.specs.OpenCalls.{open_calls}
+use Rattle.replay_model.specs.OpenCalls.{open_calls}
 use Rattle.storm_law.proofs.Places.{client_is_set, line_is_set}
 use Rattle.storm_law.proofs.Counting.{Accounts, started_by_all, ended_by_all, started_by_both, ended_by_both}
 use Rattle.storm_law.proofs.Callers.{Keeps, ended_with, started_keeps, binds_keeps, ticked_keeps}

@@ -7,8 +7,8 @@ use Rattle.replay_model.specs.declared.limits.TheConstants.{FIRST_CLIENT, CLIENT
 use Rattle.replay_model.specs.Record.{Return, Failure, is_unanswered}
 use Rattle.replay_model.specs.Step.{outcome, step, run}
 use Rattle.replay_model.specs.World.{World, first_world}
-use Rattle.storm_model.specs.OpenCalls.{open_calls, lost_in, lost_over}
-use Rattle.storm_model.specs.Summary.{IsBalanced, summary_over}
+use Rattle.replay_model.specs.OpenCalls.{open_calls, lost_in, lost_over}
+use Rattle.replay_model.specs.Summary.{IsBalanced, summary_over}
 use Rattle.storm_law.proofs.Counting.{ended, counts_all}
 use Rattle.storm_law.proofs.Events.{event_accounts, none_open}
 

@@ -6,7 +6,7 @@
 ghost use Rattle.std.specs.Prelude.{ℕ, List};
 ghost use Rattle.replay_model.specs.declared.event.Event.{Event};
 ghost use Rattle.replay_model.specs.World.{first_world};
-ghost use Rattle.storm_model.specs.Summary.{IsBalanced, summary_over};
+ghost use Rattle.replay_model.specs.Summary.{IsBalanced, summary_over};
 
 /// Whatever events come, in whatever order and as often as they like, each call that was started has returned, with a
 /// signal or without, has failed, was refused, was lost at its client's restart, or is open: the numbers of these add

@@ -6,7 +6,7 @@ ghost use Rattle.call_rules.specs.Packet.{Packet};
 ghost use Rattle.replay_model.specs.Arrival.{frame_of};
 ghost use Rattle.replay_model.specs.Record.{counts_of};
 ghost use Rattle.replay_model.specs.World as model;
-ghost use Rattle.storm_model.specs.Rounds.{is_idle_at};
+ghost use Rattle.replay_model.specs.Rounds.{is_idle_at};
 ghost use Rattle.replay_world.specs.Kept.{kept_at, forgets};
 ghost use Rattle.replay_world.specs.Stands.{Stands};
 ghost use Rattle.replay_world.specs.Stored.{packets_of};

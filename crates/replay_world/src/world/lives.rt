@@ -3,7 +3,7 @@
 ghost use Rattle.std.specs.Prelude.{◌≡◌, ◌≤◌, ◌+◌, ◌^◌, ℕ, OnOk};
 ghost use Rattle.replay_model.specs.World as model;
 ghost use Rattle.replay_model.specs.Step as step;
-ghost use Rattle.storm_model.specs.OpenCalls.{lost_of};
+ghost use Rattle.replay_model.specs.OpenCalls.{lost_of};
 ghost use Rattle.replay_world.specs.Stored.{AllBelow, RoseByAtMost, Keeps};
 ghost use Rattle.replay_world.specs.Stands.{Stands};
 ghost use Rattle.replay_world.specs.Played.{Plays};

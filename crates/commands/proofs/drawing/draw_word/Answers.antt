@@ -1,5 +1,5 @@
 use Rattle.std.proofs.Common.{arith}
-use Rattle.storm_model.specs.Draws.{draw}
+use Rattle.replay_model.specs.Draws.{draw}
 use Rattle.commands.proofs.DrawnRounds.{asks_null, asks_add, asks_bump, asks_max_arg, asks_bind}
 use Rattle.commands.proofs.drawing.draw_word.Goals as goal
 

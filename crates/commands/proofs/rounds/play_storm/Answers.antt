@@ -1,7 +1,7 @@
 use Rattle.std.proofs.Common.{◌≡◌, ◌*◌, ap, ◌∙◌, arith}
-use Rattle.storm_model.specs.declared.options.TheConstants.{ROUNDS_A_CALL}
-use Rattle.storm_model.specs.Rounds.{Storm, calm, rounds_of, storm}
-use Rattle.storm_model.specs.Summary.{summary_over}
+use Rattle.replay_model.specs.declared.options.TheConstants.{ROUNDS_A_CALL}
+use Rattle.replay_model.specs.Rounds.{Storm, calm, rounds_of, storm}
+use Rattle.replay_model.specs.Summary.{summary_over}
 use Rattle.commands.specs.Rounds.{storm_at}
 use Rattle.commands.proofs.PlayedRounds.{all_rounds}
 use Rattle.commands.proofs.rounds.play_storm.Goals as goal

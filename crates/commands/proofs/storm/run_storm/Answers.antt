@@ -1,6 +1,6 @@
 use Rattle.std.proofs.Common.{◌∙◌}
 use Rattle.replay_model.specs.declared.limits.TheConstants.{SMALL_BUFFERS, LONG_BUFFERS}
-use Rattle.storm_model.specs.Rounds.{storm}
+use Rattle.replay_model.specs.Rounds.{storm}
 use Rattle.commands.specs.declared.status.Status.TheVariants as status
 use Rattle.commands.proofs.Storming.{once_at, once_at_end, stormed, stormed_in_part, storms_from}
 use Rattle.commands.proofs.storm.run_storm.Goals as goal

@@ -1,5 +1,5 @@
 use Rattle.std.proofs.Common.{◌≡◌, ℕ, List, [], ◌++◌, ap, ◌∙◌}
-use Rattle.storm_model.specs.Summary.{Summary, storm_text, summary_of, summary_text}
+use Rattle.replay_model.specs.Summary.{Summary, storm_text, summary_of, summary_text}
 use Rattle.commands.proofs.storm.text_of_storm.Goals as goal
 
 text_is : (seed calls : ℕ) (o new : List ℕ) (s : Summary) → new ≡ o ++ summary_text seed calls s → o ≡ [] → s ≡ summary_of seed calls → new ≡ storm_text seed calls

@@ -2,7 +2,7 @@ use Rattle.std.proofs.Common.{◌≡◌, ℕ, List, ◌++◌, ap, ◌∙◌, app
 use Rattle.std.specs.Prelude.{codes}
 use Rattle.std.specs.Fmt.{decimal}
 use Rattle.std.proofs.lemmas.Result.{on_ok_weaker}
-use Rattle.storm_model.specs.Summary.{count_line, newline}
+use Rattle.replay_model.specs.Summary.{count_line, newline}
 use Rattle.commands.proofs.summary.put_count.Goals as goal
 
 regroup : (name : List ℕ) (n : ℕ) → name ++ (codes " " ++ (decimal n ++ newline)) ≡ count_line name n

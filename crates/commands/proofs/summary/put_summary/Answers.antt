@@ -2,7 +2,7 @@ use Rattle.std.proofs.Common.{◌≡◌, ℕ, List, ◌++◌, ap, ◌∙◌, app
 use Rattle.std.specs.Prelude.{codes}
 use Rattle.std.specs.Fmt.{decimal}
 use Rattle.std.proofs.lemmas.Result.{on_ok_weaker}
-use Rattle.storm_model.specs.Summary.{Summary, count_line, newline, summary_text}
+use Rattle.replay_model.specs.Summary.{Summary, count_line, newline, summary_text}
 use Rattle.commands.specs.contracts.summary.Summary.{the_view}
 use Rattle.commands.proofs.summary.put_summary.Goals as goal
 

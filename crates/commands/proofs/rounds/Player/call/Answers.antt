@@ -2,7 +2,7 @@ use Rattle.std.proofs.Common.{◌≡◌, ◌<◌, length, List, true, ap, sym, �
 use Rattle.std.proofs.lemmas.Bool.{lt-ltb}
 use Rattle.replay_model.specs.declared.event.Event.{Event}
 use Rattle.replay_model.specs.declared.event.Event.TheVariants as event
-use Rattle.storm_model.specs.Rounds.{Round}
+use Rattle.replay_model.specs.Rounds.{Round}
 use Rattle.commands.specs.Rounds.{world_at}
 use Rattle.commands.proofs.DrawnRounds.{both, made_of, not_busy}
 use Rattle.commands.proofs.PlayedRounds.{event_played}

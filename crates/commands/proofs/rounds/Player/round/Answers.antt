@@ -1,5 +1,5 @@
 use Rattle.std.proofs.Common.{◌+◌, ap, ◌∙◌, arith}
-use Rattle.storm_model.specs.Rounds.{Storm}
+use Rattle.replay_model.specs.Rounds.{Storm}
 use Rattle.commands.specs.declared.rounds.Player.{Player}
 use Rattle.commands.specs.Rounds.{storm_at, world_at}
 use Rattle.commands.proofs.DrawnRounds.{round_is}

@@ -1,5 +1,5 @@
 use Rattle.std.proofs.Common.{◌≡◌, ◌≤◌, take}
-use Rattle.storm_model.specs.OpenCalls.{open_of_lines}
+use Rattle.replay_model.specs.OpenCalls.{open_of_lines}
 use Rattle.replay_client.proofs.machine.ClientMachine.open_calls.Given as goal
 
 abbrev pub invariant-loop-line : goal.invariant-loop-line

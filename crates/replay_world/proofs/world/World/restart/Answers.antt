@@ -4,7 +4,7 @@ use Rattle.std.proofs.lemmas.Bool.{cond-true, cond-false, eq-eqb, ne_eqb}
 use Rattle.replay_model.specs.World.{Client, numbered, World}
 use Rattle.replay_model.specs.declared.limits.TheConstants.{SERVER_MACHINE, FIRST_CLIENT}
 use Rattle.replay_model.specs.Step.{boots_server, boots_client, restart_event}
-use Rattle.storm_model.specs.OpenCalls.{lost_of}
+use Rattle.replay_model.specs.OpenCalls.{lost_of}
 use Rattle.replay_world.proofs.Numbered.{numbered-low}
 use Rattle.replay_world.proofs.world.World.restart.Goals as goal
 

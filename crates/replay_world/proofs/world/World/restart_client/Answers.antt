@@ -5,7 +5,7 @@ use Rattle.replay_model.specs.Record.{Impossible, Restarts}
 use Rattle.replay_model.specs.Lines.{lines_of_act}
 use Rattle.replay_model.specs.World.{Client, numbered, World, booted_client}
 use Rattle.replay_model.specs.Step.{Outcome, impossible, with_client, boots_client}
-use Rattle.storm_model.specs.OpenCalls.{open_of, lost_of}
+use Rattle.replay_model.specs.OpenCalls.{open_of, lost_of}
 use Rattle.replay_client.specs.Client as client
 use Rattle.replay_lines.specs.Page.{Page, written}
 use Rattle.replay_world.specs.Stored.{Stored}

@@ -1,4 +1,0 @@
-pub mod Draws
-pub mod OpenCalls
-pub mod Rounds
-pub mod Summary
