@@ -1,16 +1,14 @@
 //! The server's exports, its restarts, and calls with long arguments and results.
 
 use crate::trial::{
-    ACK, ACKED, Added, CALL, CLIENT, CallerPacket, EARLIER, FIRST, LATER, Line, PROBE, RESULT,
-    SECOND, ServerPacket, booted, first_other, first_other_at_boot, header_of, take,
+    ACK, ACKED, Added, CALL, CallerPacket, Data, EARLIER, FIRST, LATER, Line, PROBE, RESULT,
+    SECOND, ServerPacket, booted, first_other, first_other_at_boot,
 };
 use Added::{Nothing, Packet, Rejection, Run};
 use Line::{Export, Idle, NoExport, NoRestart, One, Restart, Take, Withdraw};
 use binder::ExportFault;
 use call_rules::Did;
 use call_rules::Unfit::Same;
-use replay_packets::counted_text;
-use replay_server::ServerMachine;
 use rpc_header::Kind;
 use std::alloc::Global;
 use std::test::Fail;
@@ -144,9 +142,10 @@ static RESTARTED: [Line; 9] = [
 /// Whether the server is as booted when it restarts after these lines.
 fn forgets(alloc: Global, lines: &[Line]) -> Result<bool, Fail> {
     let mut server = booted(alloc)?;
-    let before = first_other(alloc, &mut server, lines)?;
-    let after = first_other(alloc, &mut server, &RESTARTED)?;
-    Ok(before.is_none() && after.is_none())
+    if first_other(alloc, &mut server, lines)?.is_some() {
+        return Ok(false);
+    }
+    Ok(first_other(alloc, &mut server, &RESTARTED)?.is_none())
 }
 
 /// After how many lines a restart leaves something of them.
@@ -186,50 +185,31 @@ fn a_restart_forgets_each_state_of_workers_and_entries(rt: HostRuntime) -> Resul
     Ok(())
 }
 
-/// Whether a packet with this data comes, and then these lines come about.
-fn comes(
-    alloc: Global,
-    server: &mut ServerMachine,
-    packet: CallerPacket,
-    data: &[u8],
-    lines: &[Line],
-) -> Result<bool, Fail> {
-    let is_taken = take(alloc, server, CLIENT, header_of(packet)?, data)?;
-    let other = first_other(alloc, server, lines)?;
-    Ok(is_taken && other.is_none())
-}
-
-/// The same, of a server that has booted.
-fn comes_at_boot(
-    alloc: Global,
-    packet: CallerPacket,
-    data: &[u8],
-    lines: &[Line],
-) -> Result<bool, Fail> {
-    comes(alloc, &mut booted(alloc)?, packet, data, lines)
-}
-
-/// The pieces of a text of 1440 bytes behind its count.
+/// The first piece of a text of 1440 bytes behind its count.
 const TEXT: CallerPacket = CallerPacket {
     procedure: 3,
+    data: Data::TextFront(1440),
     ..FIRST
 };
 
+/// Its last piece: bytes 1436 to 1439, each its place modulo 251.
 const TEXT_END: CallerPacket = CallerPacket {
     fragment: 1,
     procedure: 3,
+    data: Data::Bytes(&[181, 182, 183, 184]),
     ..CALL
 };
 
-static BEGINS: [Line; 2] = [One(Did::Claims, Nothing), One(Did::Begins, Packet(ACKED))];
-
-static COMES_AGAIN: [Line; 3] = [
+/// The first piece comes twice.
+static IN_TWO: [Line; 13] = [
+    Take(TEXT),
+    One(Did::Claims, Nothing),
+    One(Did::Begins, Packet(ACKED)),
+    Take(TEXT),
     One(Did::Claims, Nothing),
     One(Did::Takes, Nothing),
     One(Did::Rests, Packet(ACKED)),
-];
-
-static ENDS: [Line; 5] = [
+    Take(TEXT_END),
     One(Did::Claims, Nothing),
     One(Did::Takes, Nothing),
     One(Did::Admits, Nothing),
@@ -239,20 +219,14 @@ static ENDS: [Line; 5] = [
 
 #[test]
 fn a_long_argument_comes_in_two_pieces(rt: HostRuntime) -> Result<(), Fail> {
-    let alloc = rt.alloc();
-    let mut server = booted(alloc)?;
-    let text = counted_text(alloc, 1440)?;
-    let first = text.get(..1440).ok_or("a full piece")?;
-    let last = text.get(1440..).ok_or("a last piece")?;
-    assert!(rt; comes(alloc, &mut server, TEXT, first, &BEGINS)?);
-    assert!(rt; comes(alloc, &mut server, TEXT, first, &COMES_AGAIN)?);
-    assert!(rt; comes(alloc, &mut server, TEXT_END, last, &ENDS)?);
+    assert!(rt; first_other_at_boot(rt.alloc(), &IN_TWO)?.is_none());
     Ok(())
 }
 
-/// Asks for a text.
+/// Asks for a text of 2880 bytes.
 const LONG_CALL: CallerPacket = CallerPacket {
     procedure: 4,
+    data: Data::Bytes(&[0, 0, 11, 64]),
     ..CALL
 };
 
@@ -295,7 +269,8 @@ const THIRD_PIECE: ServerPacket = ServerPacket {
     ..RESULT
 };
 
-static FETCHED: [Line; 16] = [
+static FETCHED: [Line; 17] = [
+    Take(LONG_CALL),
     One(Did::Claims, Nothing),
     One(Did::Admits, Nothing),
     One(Did::Runs, Run(4, false, 2884)),
@@ -316,8 +291,7 @@ static FETCHED: [Line; 16] = [
 
 #[test]
 fn a_long_result_is_fetched_piece_by_piece(rt: HostRuntime) -> Result<(), Fail> {
-    let alloc = rt.alloc();
-    assert!(rt; comes_at_boot(alloc, LONG_CALL, &[0, 0, 11, 64], &FETCHED)?);
+    assert!(rt; first_other_at_boot(rt.alloc(), &FETCHED)?.is_none());
     Ok(())
 }
 
@@ -328,7 +302,11 @@ const LAST_BYTE: ServerPacket = ServerPacket {
     ..RESULT
 };
 
-static TWO_PIECES: [Line; 16] = [
+static TWO_PIECES: [Line; 17] = [
+    Take(CallerPacket {
+        data: Data::Bytes(&[0, 0, 5, 157]),
+        ..LONG_CALL
+    }),
     One(Did::Claims, Nothing),
     One(Did::Admits, Nothing),
     One(Did::Runs, Run(4, false, 1441)),
@@ -347,7 +325,11 @@ static TWO_PIECES: [Line; 16] = [
     One(Did::Drops(Same), Nothing),
 ];
 
-static MIDDLE_PIECE: [Line; 8] = [
+static MIDDLE_PIECE: [Line; 9] = [
+    Take(CallerPacket {
+        data: Data::Bytes(&[0, 0, 11, 61]),
+        ..LONG_CALL
+    }),
     One(Did::Claims, Nothing),
     One(Did::Admits, Nothing),
     One(Did::Runs, Run(4, false, 2881)),
@@ -360,8 +342,7 @@ static MIDDLE_PIECE: [Line; 8] = [
 
 #[test]
 fn a_kept_reply_is_sent_piece_by_piece(rt: HostRuntime) -> Result<(), Fail> {
-    let alloc = rt.alloc();
-    assert!(rt; comes_at_boot(alloc, LONG_CALL, &[0, 0, 5, 157], &TWO_PIECES)?);
-    assert!(rt; comes_at_boot(alloc, LONG_CALL, &[0, 0, 11, 61], &MIDDLE_PIECE)?);
+    assert!(rt; first_other_at_boot(rt.alloc(), &TWO_PIECES)?.is_none());
+    assert!(rt; first_other_at_boot(rt.alloc(), &MIDDLE_PIECE)?.is_none());
     Ok(())
 }

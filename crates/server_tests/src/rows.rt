@@ -2,8 +2,8 @@
 //! machine 2, where they are of no other.
 
 use crate::trial::{
-    ACK, ACKED, Added, CALL, CallerPacket, EARLIER, FIRST, LATER, Line, PROBE, RESULT, SECOND,
-    ServerPacket, first_other_at_boot,
+    ACK, ACKED, Added, CALL, CallerPacket, Data, EARLIER, FIRST, LATER, Line, PROBE, RESULT,
+    SECOND, ServerPacket, first_other_at_boot,
 };
 use Added::{Nothing, Packet, Run};
 use Line::{One, Take, Two};
@@ -26,7 +26,7 @@ const LATER_PROBE: CallerPacket = CallerPacket {
 /// The last piece of a call of three.
 const LAST: CallerPacket = CallerPacket {
     fragment: 2,
-    len: 5,
+    data: Data::Sevens(5),
     ..CALL
 };
 

@@ -6,10 +6,10 @@ ghost use Rattle.std.specs.Prelude.{◌≤◌};
 use binder::{ExportFault, Name, read_name};
 use call_rules::Did;
 use ff_io::Station;
-use replay_packets::{Outgoing, SERVER, arrive};
+use replay_packets::{Outgoing, SERVER, arrive, counted_text};
 use replay_server::{Adds, ServerMachine, Worked};
 use rpc_header::{Activity, CallId, Export, Header, Kind, fits, number};
-use std::alloc::Global;
+use std::alloc::{AllocError, Global};
 use std::test::Fail;
 
 /// The test service, as it is exported at the boot in second 1.
@@ -18,8 +18,18 @@ pub const SERVICE: Export = Export {
     index: 0,
 };
 
+/// The data of a caller's packet.
+#[derive(Clone, Copy)]
+pub enum Data {
+    /// So many bytes, each 7.
+    Sevens(usize),
+    Bytes(&'static [u8]),
+    /// The first 1440 bytes of a text of so many with its count before it.
+    TextFront(u16),
+}
+
 /// A packet of a caller: its kind, whether it asks for an acknowledgement and is the last piece, the number of its
-/// call, its fragment, how many bytes of data it has, and what it calls.
+/// call, its fragment, its data, and what it calls.
 #[derive(Clone, Copy)]
 pub struct CallerPacket {
     pub kind: Kind,
@@ -27,7 +37,7 @@ pub struct CallerPacket {
     pub last: bool,
     pub number: u64,
     pub fragment: u16,
-    pub len: usize,
+    pub data: Data,
     pub export: Export,
     pub procedure: u16,
 }
@@ -39,7 +49,7 @@ pub const CALL: CallerPacket = CallerPacket {
     last: true,
     number: 65536,
     fragment: 0,
-    len: 0,
+    data: Data::Sevens(0),
     export: SERVICE,
     procedure: 0,
 };
@@ -58,7 +68,7 @@ pub const LATER: CallerPacket = CallerPacket {
 pub const FIRST: CallerPacket = CallerPacket {
     please_ack: true,
     last: false,
-    len: 1440,
+    data: Data::Sevens(1440),
     ..CALL
 };
 
@@ -187,19 +197,27 @@ pub fn header_of(packet: CallerPacket) -> Result<Header, Fail> {
 
 pub const CLIENT: Station = Station { machine: 2 };
 
+fn text_front(alloc: Global, count: u16) -> Result<Vec<u8>, AllocError> {
+    let mut text = counted_text(alloc, u32::from(count))?;
+    text.truncate(1440);
+    Ok(text)
+}
+
+fn bytes_of(alloc: Global, data: Data) -> Result<Vec<u8>, AllocError> {
+    match data {
+        Data::Sevens(len) => vec![in alloc; 7u8; len],
+        Data::Bytes(bytes) => Vec::from_slice(alloc, bytes),
+        Data::TextFront(count) => text_front(alloc, count),
+    }
+}
+
 fn take_packet(
     alloc: Global,
     server: &mut ServerMachine,
     packet: CallerPacket,
 ) -> Result<bool, Fail> {
-    let payload = vec![in alloc; 7u8; packet.len]?;
-    take(
-        alloc,
-        server,
-        CLIENT,
-        header_of(packet)?,
-        payload.as_slice(),
-    )
+    let payload = bytes_of(alloc, packet.data)?;
+    take(alloc, server, CLIENT, header_of(packet)?, &payload)
 }
 
 fn sent(packet: &Outgoing) -> ServerPacket {
