@@ -14,7 +14,7 @@ fn read(alloc: Global, text: &str) -> Result<Result<Command, WordsFault>, AllocE
     Ok(read_command(alloc, &words))
 }
 
-const STORMS: [(&str, u64, u32); 10] = [
+static STORMS: [(&str, u64, u32); 10] = [
     ("storm|--seed=1|--calls=100", 1, 100),
     ("storm|--calls=100|--seed=1", 1, 100),
     ("storm|--seed|1|--calls|100", 1, 100),
@@ -31,12 +31,23 @@ const STORMS: [(&str, u64, u32); 10] = [
     ),
 ];
 
+/// The first of the words above that don't ask for their storm.
+fn first_other_storm(alloc: Global) -> Result<Option<&'static str>, AllocError> {
+    for (words, seed, calls) in &STORMS {
+        let wanted = Command::Storm(StormOptions {
+            seed: *seed,
+            calls: *calls,
+        });
+        if read(alloc, words)? != Ok(wanted) {
+            return Ok(Some(words));
+        }
+    }
+    Ok(None)
+}
+
 #[test]
 fn options_are_read_in_any_order_and_in_both_spellings(rt: HostRuntime) -> Result<(), Fail> {
-    for (words, seed, calls) in STORMS {
-        let wanted = Command::Storm(StormOptions { seed, calls });
-        assert!(rt; read(rt.alloc(), words)? == Ok(wanted));
-    }
+    assert!(rt; first_other_storm(rt.alloc())?.is_none());
     Ok(())
 }
 
@@ -47,7 +58,7 @@ fn commands_without_options_are_read(rt: HostRuntime) -> Result<(), Fail> {
     Ok(())
 }
 
-const REFUSED: [&str; 36] = [
+static REFUSED: [&str; 36] = [
     "",
     "Replay",
     "storms",
@@ -86,11 +97,19 @@ const REFUSED: [&str; 36] = [
     "storm|-h",
 ];
 
+/// The first of the words above that are read.
+fn first_read(alloc: Global) -> Result<Option<&'static str>, AllocError> {
+    for words in &REFUSED {
+        if read(alloc, words)? != Err(WordsFault::Usage) {
+            return Ok(Some(words));
+        }
+    }
+    Ok(None)
+}
+
 #[test]
 fn other_words_are_refused(rt: HostRuntime) -> Result<(), Fail> {
-    for words in REFUSED {
-        assert!(rt; read(rt.alloc(), words)? == Err(WordsFault::Usage));
-    }
+    assert!(rt; first_read(rt.alloc())?.is_none());
     let none: Vec<String> = Vec::new(rt.alloc());
     assert!(rt; read_command(rt.alloc(), &none) == Err(WordsFault::Usage));
     Ok(())
