@@ -13,7 +13,8 @@ cd "$(dirname "$0")/.."
 work=$(mktemp -d)
 trap 'rm -rf "$work"' EXIT
 
-mkdir -p "$work/crates/pool_bench/src"
+bench="$work/crates/pool_bench"
+mkdir -p "$bench/src" "$bench/specs" "$bench/proofs"
 cp HANDLES "$work/"
 for crate in item_list lane_checksum ff_io rpc_header fragments udp_frames packet_board packet_pool; do
     mkdir "$work/crates/$crate"
@@ -22,25 +23,31 @@ for crate in item_list lane_checksum ff_io rpc_header fragments udp_frames packe
     done
     grep "^$crate:" crates.txt >> "$work/crates.txt"
 done
-# The moves of the tests, as a part of the crate.
-sed -i 's/^pub(crate) fn/pub fn/' "$work/crates/packet_pool/src/moves.rt"
-sed -i '/^#\[cfg(test)\]$/d; /^mod tests;$/d; s/^mod moves;$/pub mod moves;/' "$work/crates/packet_pool/src/lib.rt"
-rm -rf "$work/crates/packet_pool/src/tests.rt" "$work/crates/packet_pool/proofs/tests"
+# The moves of the tests, as modules of the program, with what their contracts and proofs name.
+tests=crates/wire_tests
+cp "$tests/src/moves.rt" "$bench/src/"
+cp "$tests/specs/Moves.antt" "$tests/specs/Lib.antt" "$bench/specs/"
+cp -r "$tests/proofs/moves" "$tests/proofs/Posters.antt" "$bench/proofs/"
+echo 'pub mod Posters' > "$bench/proofs/Lib.antt"
+find "$bench" -name '*.rt' -o -name '*.antt' | xargs sed -i 's/Rattle\.wire_tests\./Rattle.pool_bench./'
 echo 'pool_bench: packet_board packet_pool crossbeam_queue' >> "$work/crates.txt"
-cat > "$work/crates/pool_bench/src/main.rt" <<'RATTLE'
+cat > "$bench/src/main.rt" <<'RATTLE'
 //! Times a pool and a queue by one, two and four threads, a line each: what, threads, packets, nanoseconds a packet.
 #![tactic(auto)]
 
 ghost use Rattle.std.specs.Thread.{IsSync};
-ghost use Rattle.std.specs.Prelude.{◌≡◌, true};
+ghost use Rattle.std.specs.Prelude.{◌≡◌, ◌≤◌, true};
 ghost use Rattle.packet_board.specs.Hands.{HoldsNothing};
-ghost use Rattle.packet_board.specs.Seats.{view, held, IsSeatOf};
+ghost use Rattle.packet_board.specs.Seats.{view, held, IsSeatOf, IsSameSeat};
+ghost use Rattle.packet_pool.specs.Cells.{last_order};
 ghost use Rattle.packet_pool.specs.Packets.{board_of};
-ghost use Rattle.packet_pool.specs.Plain.{PostsBelow};
+ghost use Rattle.pool_bench.specs.Moves.{PostsBelow};
 
+mod moves;
+
+use crate::moves::{claim_rounds, claims, take_and_post, takes};
 use crossbeam_queue::ArrayQueue;
 use packet_board::{Layout, Seat};
-use packet_pool::moves::{claim_rounds, post_and_claim_rounds, take_rounds};
 use packet_pool::{PlainLaw, Pool};
 use std::alloc::Global;
 use std::io;
@@ -66,6 +73,43 @@ enum What {
     Take,
     Post,
     Push,
+}
+
+/// Takes and gives so many times, and counts the packets.
+fn take_rounds(pool: &Pool<PlainLaw>, seat: &mut Seat<PlainLaw>, rounds: u64) -> u64
+    requires seat { IsSeatOf (board_of pool.now) seat.old }
+    requires empty { HoldsNothing (held seat.old) }
+    ensures seat { IsSameSeat seat.old seat.new }
+    ensures empty { HoldsNothing (held seat.new) }
+    ensures counted { result ≤ rounds }
+{
+    let mut moved = 0;
+    for round in 0..rounds {
+        if takes(pool, seat) {
+            moved += 1;
+        }
+    }
+    moved
+}
+
+/// Posts and claims in turns, and counts the packets that were claimed.
+fn post_and_claim_rounds(pool: &Pool<PlainLaw>, seat: &mut Seat<PlainLaw>, rounds: u64) -> u64
+    requires seat { IsSeatOf (board_of pool.now) seat.old }
+    requires empty { HoldsNothing (held seat.old) }
+    requires order { PostsBelow 0 (view seat.old) × (rounds ≤ last_order) }
+    ensures seat { IsSameSeat seat.old seat.new }
+    ensures empty { HoldsNothing (held seat.new) }
+    ensures order { PostsBelow rounds (view seat.new) }
+    ensures counted { result ≤ rounds }
+{
+    let mut moved = 0;
+    for order in 0..rounds {
+        let _posted = take_and_post(pool, seat, order);
+        if claims(pool, seat) {
+            moved += 1;
+        }
+    }
+    moved
 }
 
 /// Pushes and pops so many times, and counts the items.
@@ -273,7 +317,37 @@ fn main(rt: HostRuntime) -> io::Result<()> {
     Ok(())
 }
 RATTLE
-(cd "$work/crates/pool_bench" && rt run > "$work/times" 2> "$work/log" < /dev/null) || { cat "$work/times" "$work/log"; exit 1; }
+mkdir "$bench/proofs/take_rounds"
+cat > "$bench/proofs/take_rounds/Invariants.antt" <<'ANTT'
+use Rattle.std.proofs.Common.{◌≤◌}
+use Rattle.packet_board.specs.Hands.{HoldsNothing}
+use Rattle.packet_board.specs.Seats.{held, IsSameSeat}
+use Rattle.pool_bench.proofs.take_rounds.Given as goal
+
+abbrev pub invariant-loop-round : goal.invariant-loop-round
+invariant-loop-round l = record {
+  same : IsSameSeat l.fn.seat l.seat;
+  nothing_held : HoldsNothing (held l.seat);
+  counted : l.moved ≤ l.round;
+}
+ANTT
+mkdir "$bench/proofs/post_and_claim_rounds"
+cat > "$bench/proofs/post_and_claim_rounds/Invariants.antt" <<'ANTT'
+use Rattle.std.proofs.Common.{◌≤◌}
+use Rattle.packet_board.specs.Hands.{HoldsNothing}
+use Rattle.packet_board.specs.Seats.{view, held, IsSameSeat}
+use Rattle.pool_bench.specs.Moves.{PostsBelow}
+use Rattle.pool_bench.proofs.post_and_claim_rounds.Given as goal
+
+abbrev pub invariant-loop-order : goal.invariant-loop-order
+invariant-loop-order l = record {
+  same : IsSameSeat l.fn.seat l.seat;
+  nothing_held : HoldsNothing (held l.seat);
+  below : PostsBelow l.order (view l.seat);
+  counted : l.moved ≤ l.order;
+}
+ANTT
+(cd "$bench" && rt run > "$work/times" 2> "$work/log" < /dev/null) || { cat "$work/times" "$work/log"; exit 1; }
 awk '$1 == "take_and_give" || $1 == "post_and_claim" || $1 == "push_and_pop" { ns[$2, $1] = $4; seen[$2] = 1 }
      END {
          for (t = 1; t <= 4; t *= 2) {

@@ -2,4 +2,3 @@ pub mod Seen
 pub mod Hands
 pub mod Least
 pub mod Bytes
-pub mod Posters

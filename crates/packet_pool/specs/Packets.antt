@@ -1,5 +1,5 @@
 -- What contracts say of a pool, of packets, and of what a seat saw in a call.
-use Rattle.std.specs.Prelude.{◌≡◌, ℕ, ◌+◌, ◌<◌, ◌≤◌, List, None}
+use Rattle.std.specs.Prelude.{◌≡◌, ℕ, ◌+◌, ◌<◌, ◌≤◌, List}
 use mathlib.Core.Option.{some}
 use lib.ListN.{get_elem?}
 use Rattle.packet_board.specs.declared.word.Word.{Word}
@@ -9,7 +9,7 @@ use Rattle.packet_board.specs.declared.view.Met.{Met}
 use Rattle.packet_board.specs.declared.view.View.{View}
 use Rattle.packet_board.specs.declared.board.Board.{Board}
 use Rattle.packet_board.specs.Words.{buffers_of, empty, full}
-use Rattle.packet_board.specs.Hands.{Held, updated, nothing, IsUnstowed}
+use Rattle.packet_board.specs.Hands.{Held, IsUnstowed}
 use Rattle.packet_board.specs.Views.{exchanged}
 use Rattle.packet_board.specs.Laws.{Law, Seen, Homes}
 use Rattle.packet_board.specs.Seats.{layout_of}
@@ -46,10 +46,6 @@ IsPacket k h p = IsUnstowed h (number_of p) × (number_of p < k.small)
 
 abbrev pub IsLongPacket : Layout → Held → LongPacket → Type 0
 IsLongPacket k h p = IsUnstowed h (long_number p) × (k.small ≤ long_number p) × (long_number p < buffers_of k)
-
--- the packet is all that the hands hold
-abbrev pub HoldsPacket : Layout → Held → Packet → Type 0
-HoldsPacket k h p = (h ≡ updated (number_of p) (some None) nothing) × (number_of p < k.small)
 
 module _ {N : Type 0} where
   -- Seen in a call: the word that the seat last met or left in the cell was such a word, at a step after that one; and the seat remembers it for good

@@ -11,7 +11,7 @@ use Rattle.packet_board.specs.declared.view.View.{View}
 use Rattle.packet_board.specs.Words.{weigh, buffers_of, cell_count, first_word, empty, full}
 use Rattle.packet_pool.specs.declared.item.Item.{Item}
 use Rattle.packet_pool.specs.declared.plain.PlainNotes.{PlainNotes}
-use Rattle.packet_pool.specs.Cells.{ready_count, ready_cell, IsReadyCell, ready_word, item, Rises, IsNext, AllBefore, newest}
+use Rattle.packet_pool.specs.Cells.{ready_count, ready_cell, IsReadyCell, ready_word, item, Rises, IsNext, newest}
 use Rattle.packet_pool.specs.Laws.{after_take, IsOnly, PoolCells}
 
 abbrev pub PlainView : Type 0
@@ -155,11 +155,3 @@ plain_allows v cell old new given found notes = (kind : Kind) × IsKind v cell o
 
 abbrev pub may_split : PlainView → Type 0
 may_split v = v.notes.right ≡ true
-
--- the seat kept the right and what it posted, and neither split nor joined
-abbrev pub SamePoster : PlainView → PlainView → Type 0
-SamePoster v w = (w.notes.right ≡ v.notes.right) × (w.notes.posted ≡ v.notes.posted) × (w.begun ≡ v.begun) × (w.ended ≡ v.ended)
-
--- the seat has the right to post, and posted only under lesser orders
-abbrev pub PostsBelow : ℕ → PlainView → Type 0
-PostsBelow order v = (v.notes.right ≡ true) × AllBefore order v.notes.posted

@@ -141,6 +141,3 @@ impl<L: PoolLaw> Pool<L> {
         }
     }
 }
-
-#[cfg(test)]
-mod tests;

@@ -20,8 +20,3 @@ pub use law::PoolLaw;
 pub use packet::{DATA_AT, Empty, LongPacket, NoPacket, Packet, Unread};
 pub use plain::{PlainLaw, PlainNotes};
 pub use pool::Pool;
-
-#[cfg(test)]
-mod moves;
-#[cfg(test)]
-mod tests;

@@ -1,1 +1,1 @@
-mod Hands
+pub mod Posters

@@ -4,7 +4,7 @@ ghost use Rattle.packet_board.specs.Words.{cell_count};
 ghost use Rattle.packet_board.specs.Hands.{HoldsNothing, HoldsOne};
 ghost use Rattle.packet_board.specs.Seats.{held, layout_of, IsSeatOf, IsSameSeat};
 
-use packet_board::{Board, Buffer, FreeWords, Layout, Seat, StillOut, Word};
+use packet_board::{Board, Buffer, FreeWords, Layout, Seat, StillOut, Word, hand_laws};
 use std::marker::Brand;
 use std::test::Fail;
 
@@ -57,15 +57,14 @@ fn take(
         tag,
         buffer: Some(number),
     };
-    board.exchange::<Brand>(
-        seat,
-        cell,
-        full,
-        Word {
-            tag: 0,
-            buffer: None,
-        },
-    )
+    let empty = Word {
+        tag: 0,
+        buffer: None,
+    };
+    match board.exchange::<Brand>(seat, cell, full, empty) {
+        Ok(()) => Ok(()),
+        Err(word) => Err(word),
+    }
 }
 
 // Puts the buffer in the hands into a cell that is thought to be empty.
@@ -83,19 +82,19 @@ fn put(
     ensures done { IfOk result (λ _. HoldsNothing (held seat.new)) }
     ensures met { IfErr result (λ word. HoldsOne number (held seat.new)) }
 {
+    hand_laws();
     let full = Word {
         tag,
         buffer: Some(number),
     };
-    board.exchange::<Brand>(
-        seat,
-        cell,
-        Word {
-            tag: 0,
-            buffer: None,
-        },
-        full,
-    )
+    let empty = Word {
+        tag: 0,
+        buffer: None,
+    };
+    match board.exchange::<Brand>(seat, cell, empty, full) {
+        Ok(()) => Ok(()),
+        Err(word) => Err(word),
+    }
 }
 
 // Takes the buffer in the hands out of its slot, writes into it, and puts it back.
@@ -106,6 +105,7 @@ fn sign(board: &Board<FreeWords>, seat: &mut Seat<FreeWords>, number: u16, from:
     ensures seat { IsSameSeat seat.old seat.new }
     ensures one { HoldsOne number (held seat.new) }
 {
+    hand_laws();
     let mut buffer = board.unstow(seat, number);
     buffer.from = from;
     buffer.signal = true;

@@ -1,16 +1,17 @@
-use Rattle.std.proofs.Common.{ap, ◌∙◌, Some, true}
+use Rattle.std.proofs.Common.{ap, ◌∙◌, None, Some, true}
 use mathlib.Core.Option.{some}
-use Rattle.packet_board.specs.Hands.{nothing}
+use Rattle.packet_board.specs.Hands.{updated, nothing}
 use Rattle.packet_board.specs.Seats.{held}
-use Rattle.packet_board.proofs.Held.{updated_here, out_one}
-use Rattle.wire_tests.proofs.Hands.{wrote_one}
 use Rattle.wire_tests.proofs.board.sign.Goals as goal
 
 pub unstow-buffer-requires-clause-stowed : goal.unstow-buffer-requires-clause-stowed
-unstow-buffer-requires-clause-stowed c = let one = c.requires.one in (one.0, ap (λ h. h c.args.number) one.1 ∙ updated_here c.args.number (some (Some one.0)) nothing)
+unstow-buffer-requires-clause-stowed c = let one = c.requires.one in (one.0, ap (λ h. h c.args.number) one.1 ∙ c.hand_laws.ensures.here c.args.number (some (Some one.0)) nothing)
 
 pub stow-requires-clause-unstowed : goal.stow-requires-clause-unstowed
-stow-requires-clause-unstowed c = out_one c.args.number (held c.args.seat.now) (held c.unstow-buffer.new.seat) c.unstow-buffer.ensures.held
+stow-requires-clause-unstowed c = ap (λ h. h c.args.number) c.unstow-buffer.ensures.held ∙ c.hand_laws.ensures.here c.args.number (some None) (held c.args.seat.now)
 
 pub returns-clause-one : goal.returns-clause-one
-returns-clause-one c = wrote_one c.args.number (held c.args.seat.now) (held c.unstow-buffer.new.seat) (held c.stow.new.seat) (record c.unstow-buffer.result { from = c.args.from; signal = true }) c.requires.one c.unstow-buffer.ensures.held c.stow.ensures.held
+returns-clause-one c = let n = c.args.number in let one = c.requires.one in let was = some (Some one.0) in let out = some None in let now = some (Some (record c.unstow-buffer.result { from = c.args.from; signal = true })) in let twice = c.hand_laws.ensures.twice in (
+  record c.unstow-buffer.result { from = c.args.from; signal = true },
+  c.stow.ensures.held ∙ (ap (λ h. updated n now h) (c.unstow-buffer.ensures.held ∙ ap (λ h. updated n out h) one.1) ∙ (ap (λ h. updated n now h) (twice n out was nothing) ∙ twice n now out nothing)),
+)

@@ -1,8 +1,8 @@
 use Rattle.std.proofs.Common.{◌≤◌}
 use Rattle.packet_board.specs.Hands.{HoldsNothing}
 use Rattle.packet_board.specs.Seats.{view, held, IsSameSeat}
-use Rattle.packet_pool.specs.Plain.{PostsBelow}
-use Rattle.packet_pool.proofs.moves.post_rounds.Given as goal
+use Rattle.wire_tests.specs.Moves.{PostsBelow}
+use Rattle.wire_tests.proofs.moves.post_rounds.Given as goal
 
 abbrev pub invariant-loop-order : goal.invariant-loop-order
 invariant-loop-order l = record {

@@ -1,13 +1,13 @@
-//! Moves of packets under the plain law that leave the hands empty, for tests.
+//! Moves of packets under the plain law by hands that hold one packet or none.
 ghost use Rattle.std.specs.Prelude.{◌≡◌, ◌+◌, ◌<◌, ◌≤◌, Some, None, MatchOption, MatchResult};
 ghost use Rattle.packet_board.specs.Hands.{HoldsNothing};
 ghost use Rattle.packet_board.specs.Seats.{view, held, IsSeatOf, IsSameSeat};
 ghost use Rattle.packet_pool.specs.Cells.{last_order};
-ghost use Rattle.packet_pool.specs.Packets.{board_of, layout_in, HoldsPacket};
-ghost use Rattle.packet_pool.specs.Plain.{SamePoster, PostsBelow};
+ghost use Rattle.packet_pool.specs.Packets.{board_of, layout_in};
+ghost use Rattle.wire_tests.specs.Moves.{HoldsPacket, SamePoster, PostsBelow};
 
-use crate::{NoPacket, Packet, PlainLaw, Pool};
-use packet_board::Seat;
+use packet_board::{Seat, hand_laws};
+use packet_pool::{NoPacket, Packet, PlainLaw, Pool};
 
 /// Takes a packet into empty hands.
 pub(crate) fn take(pool: &Pool<PlainLaw>, seat: &mut Seat<PlainLaw>) -> Option<Packet>
@@ -31,6 +31,7 @@ pub(crate) fn give(pool: &Pool<PlainLaw>, seat: &mut Seat<PlainLaw>, packet: Pac
     ensures notes { SamePoster (view seat.old) (view seat.new) }
     ensures empty { HoldsNothing (held seat.new) }
 {
+    hand_laws();
     pool.give(seat, packet);
 }
 
@@ -48,6 +49,7 @@ pub(crate) fn post(
     ensures order { PostsBelow (order + 1) (view seat.new) }
     ensures held { MatchResult result (λ _. HoldsNothing (held seat.new)) (HoldsPacket (layout_in pool.now) (held seat.new)) }
 {
+    hand_laws();
     match pool.post(seat, packet, order) {
         Ok(()) => Ok(()),
         Err(back) => Err(back),
@@ -122,23 +124,6 @@ pub(crate) fn claims(pool: &Pool<PlainLaw>, seat: &mut Seat<PlainLaw>) -> bool
     }
 }
 
-/// Takes and gives so many times, and counts the packets.
-pub(crate) fn take_rounds(pool: &Pool<PlainLaw>, seat: &mut Seat<PlainLaw>, rounds: u64) -> u64
-    requires seat { IsSeatOf (board_of pool.now) seat.old }
-    requires empty { HoldsNothing (held seat.old) }
-    ensures seat { IsSameSeat seat.old seat.new }
-    ensures empty { HoldsNothing (held seat.new) }
-    ensures counted { result ≤ rounds }
-{
-    let mut moved = 0;
-    for round in 0..rounds {
-        if takes(pool, seat) {
-            moved += 1;
-        }
-    }
-    moved
-}
-
 /// Claims so many times, and counts the packets.
 pub(crate) fn claim_rounds(pool: &Pool<PlainLaw>, seat: &mut Seat<PlainLaw>, rounds: u64) -> u64
     requires seat { IsSeatOf (board_of pool.now) seat.old }
@@ -184,30 +169,6 @@ pub(crate) fn post_rounds(pool: &Pool<PlainLaw>, seat: &mut Seat<PlainLaw>, roun
     let mut moved = 0;
     for order in 0..rounds {
         if take_and_post(pool, seat, order) {
-            moved += 1;
-        }
-    }
-    moved
-}
-
-/// Posts and claims in turns, and counts the packets that were claimed.
-pub(crate) fn post_and_claim_rounds(
-    pool: &Pool<PlainLaw>,
-    seat: &mut Seat<PlainLaw>,
-    rounds: u64,
-) -> u64
-    requires seat { IsSeatOf (board_of pool.now) seat.old }
-    requires empty { HoldsNothing (held seat.old) }
-    requires order { PostsBelow 0 (view seat.old) × (rounds ≤ last_order) }
-    ensures seat { IsSameSeat seat.old seat.new }
-    ensures empty { HoldsNothing (held seat.new) }
-    ensures order { PostsBelow rounds (view seat.new) }
-    ensures counted { result ≤ rounds }
-{
-    let mut moved = 0;
-    for order in 0..rounds {
-        let _posted = take_and_post(pool, seat, order);
-        if claims(pool, seat) {
             moved += 1;
         }
     }

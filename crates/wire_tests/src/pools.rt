@@ -1,12 +1,15 @@
 //! Pools under the plain law.
 ghost use Rattle.std.specs.Prelude.{◌≡◌, [], ◌∷◌, IsTrue};
 ghost use Rattle.packet_board.specs.Seats.{held, IsSeatOf, IsSameSeat};
-ghost use Rattle.packet_pool.specs.Packets.{board_of, layout_in, number_of, HoldsPacket};
+ghost use Rattle.packet_pool.specs.Packets.{board_of, layout_in, number_of};
+ghost use Rattle.wire_tests.specs.Moves.{HoldsPacket};
 
-use crate::moves::{claim, claim_rounds, claims, give, post, post_rounds, posts, take, takes};
-use crate::{Packet, PlainLaw, Pool, Unread};
+use crate::moves::{
+    claim, claim_rounds, claims, give, post, post_rounds, posts, take, take_and_post, takes,
+};
 use ff_io::Station;
 use packet_board::{Layout, Seat};
+use packet_pool::{Packet, PlainLaw, Pool, Unread};
 use rpc_header::{Activity, CallId, CallNumber, Export, Header, HeaderFault, Kind, fits};
 use std::test::Fail;
 use std::thread::join_mut;

@@ -10,8 +10,9 @@ use Rattle.packet_pool.specs.declared.plain.PlainNotes.{PlainNotes}
 use Rattle.packet_pool.specs.Cells.{AllBefore}
 use Rattle.packet_pool.specs.Packets.{OnlyLooked, Takes}
 use Rattle.packet_pool.specs.Waiting.{Posts, Claims, Loses}
-use Rattle.packet_pool.specs.Plain.{PlainView, plain_with_taken, plain_with_posted, plain_with_claimed, every_packet, SamePoster, PostsBelow}
+use Rattle.packet_pool.specs.Plain.{PlainView, plain_with_taken, plain_with_posted, plain_with_claimed, every_packet}
 use Rattle.packet_pool.specs.PlainExchanges.{kept_take}
+use Rattle.wire_tests.specs.Moves.{SamePoster, PostsBelow}
 
 pub looked_poster : (v w : PlainView) → OnlyLooked v w → SamePoster v w
 looked_poster v w o = (ap (λ (z : PlainNotes). z.right) o.notes, ap (λ (z : PlainNotes). z.posted) o.notes, o.begun, o.ended)

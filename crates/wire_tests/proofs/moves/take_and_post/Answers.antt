@@ -1,6 +1,6 @@
 use Rattle.packet_board.specs.Seats.{view}
-use Rattle.packet_pool.proofs.Posters.{below_more, still_below}
-use Rattle.packet_pool.proofs.moves.take_and_post.Goals as goal
+use Rattle.wire_tests.proofs.Posters.{below_more, still_below}
+use Rattle.wire_tests.proofs.moves.take_and_post.Goals as goal
 
 pub posts-requires-clause-order : goal.posts-requires-clause-order
 posts-requires-clause-order c = (still_below c.args.order (view c.args.seat.now) (view c.take.new.seat) c.take.ensures.notes c.requires.order.0, c.requires.order.1)
