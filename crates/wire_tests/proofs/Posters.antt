@@ -38,6 +38,10 @@ before_more : (order : ℕ) (xs : List Item) → AllBefore order xs → AllBefor
 before_more order [] is = tt
 before_more order (x ∷ xs) is = let h = is.0 in ((omega (arith, h)), before_more order xs is.1)
 
+-- any order may follow where nothing was posted
+pub none_before : (order : ℕ) (xs : List Item) → xs ≡ [] → AllBefore order xs
+none_before order xs e = subst (λ (z : List Item). AllBefore order z) (sym e) tt
+
 pub still_below : (order : ℕ) (v w : PlainView) → SamePoster v w → PostsBelow order v → PostsBelow order w
 still_below order v w same below = (same.0 ∙ below.0, subst (λ (z : List Item). AllBefore order z) (sym same.1) below.1)
 

@@ -1,5 +1,5 @@
 -- What the tests of pools say of a seat under the plain law.
-use Rattle.std.specs.Prelude.{◌≡◌, ℕ, ◌<◌, true, None}
+use Rattle.std.specs.Prelude.{◌≡◌, ℕ, ◌<◌, true, [], ◌∷◌, None}
 use mathlib.Core.Option.{some}
 use Rattle.packet_board.specs.declared.layout.Layout.{Layout}
 use Rattle.packet_board.specs.Hands.{Held, updated, nothing}
@@ -7,6 +7,10 @@ use Rattle.packet_pool.specs.declared.packet.Packet.{Packet}
 use Rattle.packet_pool.specs.Cells.{AllBefore}
 use Rattle.packet_pool.specs.Packets.{number_of}
 use Rattle.packet_pool.specs.Plain.{PlainView}
+
+-- so many small buffers and ready cells, and nothing else
+abbrev pub plain_layout : ℕ → ℕ → Layout
+plain_layout small ready = record { small = small; long = 0; rows = ready ∷ 0 ∷ 0 ∷ 0 ∷ 0 ∷ [] }
 
 -- the packet is all that the hands hold
 abbrev pub HoldsPacket : Layout → Held → Packet → Type 0

@@ -1,10 +1,11 @@
 //! A board under the law that asks nothing of its words.
-ghost use Rattle.std.specs.Prelude.{◌≡◌, ◌<◌, ◌≤◌, ◌^◌, IfOk, IfErr};
+ghost use Rattle.std.specs.Prelude.{◌≡◌, ◌<◌, ◌≤◌, ◌^◌, Bool, IsTrue, IfOk, IfErr};
 ghost use Rattle.packet_board.specs.Words.{cell_count};
 ghost use Rattle.packet_board.specs.Hands.{HoldsNothing, HoldsOne};
-ghost use Rattle.packet_board.specs.Seats.{held, layout_of, IsSeatOf, IsSameSeat};
+ghost use Rattle.packet_board.specs.Seats.{view, held, layout_of, IsSeatOf};
 
-use packet_board::{Board, Buffer, FreeWords, Layout, Seat, StillOut, Word, hand_laws};
+use packet_board::{Board, Buffer, Closed, FreeWords, Layout, Seat, StillOut, Word, hand_laws};
+use std::alloc::{AllocError, Global};
 use std::marker::Brand;
 use std::test::Fail;
 
@@ -14,6 +15,29 @@ const LAYOUT: Layout = Layout {
     long: 1,
     rows: [1, 0, 0, 0, 1],
 };
+
+/// A new board and its first seat.
+fn board_of_one(alloc: Global) -> Result<(Board<FreeWords>, Seat<FreeWords>), AllocError>
+    ensures cells { IfOk result (λ made. cell_count (layout_of made.0) ≡ 4) }
+    ensures seat { IfOk result (λ made. IsSeatOf made.0 made.1) }
+    ensures empty { IfOk result (λ made. HoldsNothing (held made.1)) }
+{
+    Board::make(alloc, LAYOUT)
+}
+
+/// A new board and its first two seats.
+fn board_of_two(
+    alloc: Global,
+) -> Result<(Board<FreeWords>, Seat<FreeWords>, Seat<FreeWords>), AllocError>
+    ensures cells { IfOk result (λ made. cell_count (layout_of made.0) ≡ 4) }
+    ensures seats { IfOk result (λ made. IsSeatOf made.0 made.1 × IsSeatOf made.0 made.2) }
+    ensures empty { IfOk result (λ made. HoldsNothing (held made.1) × HoldsNothing (held made.2)) }
+    ensures splits { IfOk result (λ made. IsTrue (view made.1).notes) }
+{
+    let (board, mut one) = Board::<FreeWords>::make(alloc, LAYOUT)?;
+    let two = board.split(&mut one);
+    Ok((board, one, two))
+}
 
 const EMPTY: Word = Word {
     tag: 0,
@@ -31,8 +55,8 @@ const fn word(tag: u64, buffer: u16) -> Word
 
 fn read(board: &Board<FreeWords>, seat: &mut Seat<FreeWords>, cell: usize) -> Word
     requires seat { IsSeatOf board.now seat.old }
-    requires cell { cell < cell_count (layout_of board.now) }
-    ensures seat { IsSameSeat seat.old seat.new }
+    requires cell { (cell < 4) × (cell_count (layout_of board.now) ≡ 4) }
+    ensures seat { IsSeatOf board.now seat.new }
     ensures held { held seat.new ≡ held seat.old }
 {
     board.load::<Brand>(seat, cell)
@@ -47,9 +71,10 @@ fn take(
     number: u16,
 ) -> Result<(), Word>
     requires seat { IsSeatOf board.now seat.old }
-    requires cell { (cell < cell_count (layout_of board.now)) × (tag < 2 ^ 52) × (number < 4095) }
+    requires cell { (cell < 4) × (cell_count (layout_of board.now) ≡ 4) }
+    requires word { (tag < 2 ^ 52) × (number < 4095) }
     requires empty { HoldsNothing (held seat.old) }
-    ensures seat { IsSameSeat seat.old seat.new }
+    ensures seat { IsSeatOf board.now seat.new }
     ensures done { IfOk result (λ _. HoldsOne number (held seat.new)) }
     ensures met { IfErr result (λ word. HoldsNothing (held seat.new)) }
 {
@@ -76,9 +101,10 @@ fn put(
     number: u16,
 ) -> Result<(), Word>
     requires seat { IsSeatOf board.now seat.old }
-    requires cell { (cell < cell_count (layout_of board.now)) × (tag < 2 ^ 52) × (number < 4095) }
+    requires cell { (cell < 4) × (cell_count (layout_of board.now) ≡ 4) }
+    requires word { (tag < 2 ^ 52) × (number < 4095) }
     requires one { HoldsOne number (held seat.old) }
-    ensures seat { IsSameSeat seat.old seat.new }
+    ensures seat { IsSeatOf board.now seat.new }
     ensures done { IfOk result (λ _. HoldsNothing (held seat.new)) }
     ensures met { IfErr result (λ word. HoldsOne number (held seat.new)) }
 {
@@ -102,7 +128,7 @@ fn sign(board: &Board<FreeWords>, seat: &mut Seat<FreeWords>, number: u16, from:
     requires seat { IsSeatOf board.now seat.old }
     requires from { (1 ≤ from) × (from ≤ 254) }
     requires one { HoldsOne number (held seat.old) }
-    ensures seat { IsSameSeat seat.old seat.new }
+    ensures seat { IsSeatOf board.now seat.new }
     ensures one { HoldsOne number (held seat.new) }
 {
     hand_laws();
@@ -112,89 +138,122 @@ fn sign(board: &Board<FreeWords>, seat: &mut Seat<FreeWords>, number: u16, from:
     board.stow(seat, number, buffer);
 }
 
+/// Carries a buffer from its free cell into a cell that is thought to be empty.
+fn carry(
+    board: &Board<FreeWords>,
+    seat: &mut Seat<FreeWords>,
+    number: u16,
+    cell: usize,
+    tag: u64,
+) -> Result<(), Word>
+    requires seat { IsSeatOf board.now seat.old }
+    requires cell { (cell < 4) × (cell_count (layout_of board.now) ≡ 4) }
+    requires word { (tag < 2 ^ 52) × (number < 2) }
+    requires empty { HoldsNothing (held seat.old) }
+{
+    match take(board, seat, usize::from(number), 0, number) {
+        Ok(()) => put(board, seat, cell, tag, number),
+        Err(word) => Err(word),
+    }
+}
+
+/// Signs a buffer that is in its free cell, and says whether it is there again.
+fn sign_at_home(board: &Board<FreeWords>, seat: &mut Seat<FreeWords>, number: u16, from: u8) -> bool
+    requires seat { IsSeatOf board.now seat.old }
+    requires cell { (number < 2) × (cell_count (layout_of board.now) ≡ 4) }
+    requires from { (1 ≤ from) × (from ≤ 254) }
+    requires empty { HoldsNothing (held seat.old) }
+    ensures seat { IsSeatOf board.now seat.new }
+    ensures empty { IsTrue result → HoldsNothing (held seat.new) }
+{
+    let cell = usize::from(number);
+    match take(board, seat, cell, 0, number) {
+        Ok(()) => {
+            sign(board, seat, number, from);
+            put(board, seat, cell, 0, number).is_ok()
+        }
+        Err(_) => false,
+    }
+}
+
+/// What the board leaves once the other seat is joined.
+fn left_after_join(
+    board: Board<FreeWords>,
+    mut seat: Seat<FreeWords>,
+    other: Seat<FreeWords>,
+) -> Option<Closed>
+    requires seats { IsSeatOf board seat × IsSeatOf board other }
+    requires empty { HoldsNothing (held seat) × HoldsNothing (held other) }
+    requires splits { IsTrue (view seat).notes }
+{
+    board.join(&mut seat, other);
+    board.close(seat).ok()
+}
+
 /// The room of a buffer, the length of its data, and its sender.
 fn measures(buffer: &Buffer) -> (usize, usize, u8) {
     (buffer.bytes.len(), buffer.len, buffer.from)
 }
 
+/// Whether each buffer is a signal's, and its sender.
+fn signs(closed: &Closed) -> Option<[(bool, u8); 2]> {
+    let [small, long] = closed.buffers.as_slice() else {
+        return None;
+    };
+    Some([(small.signal, small.from), (long.signal, long.from)])
+}
+
+/// The measures of two buffers.
+fn measures_of_two(closed: &Closed) -> Option<[(usize, usize, u8); 2]> {
+    let [small, long] = closed.buffers.as_slice() else {
+        return None;
+    };
+    Some([measures(small), measures(long)])
+}
+
 #[test]
 fn a_board_with_a_seat_out_does_not_close(rt: HostRuntime) -> Result<(), Fail> {
-    let (board, mut seat) = Board::<FreeWords>::make(rt.alloc(), LAYOUT)?;
-    let other = board.split(&mut seat);
+    let (board, mut seat, other) = board_of_two(rt.alloc())?;
     assert!(rt; board.alone(&mut seat) == Err(1));
-    let StillOut {
-        board,
-        mut seat,
-        out,
-    } = match board.close(seat) {
+    let StillOut { board, seat, out } = match board.close(seat) {
         Ok(_) => panic!(rt; "a seat is out"),
         Err(still) => still,
     };
     assert!(rt; out == 1);
-    board.join(&mut seat, other);
-    let Ok(closed) = board.close(seat) else {
-        panic!(rt; "no seat is out")
-    };
+    let closed = left_after_join(board, seat, other).ok_or("no seat is out")?;
     assert!(rt; closed.words.as_slice() == [word(0, 0), word(0, 1), EMPTY, EMPTY].as_slice());
-    let [small, long] = closed.buffers.as_slice() else {
-        panic!(rt; "two buffers")
-    };
-    assert!(rt; [measures(small), measures(long)] == [(1514, 0, 1), (92_160, 0, 1)]);
+    assert!(rt; measures_of_two(&closed) == Some([(1514, 0, 1), (92_160, 0, 1)]));
     Ok(())
 }
 
 #[test]
 fn of_two_seats_one_takes_a_buffer(rt: HostRuntime) -> Result<(), Fail> {
-    let (board, mut one) = Board::<FreeWords>::make(rt.alloc(), LAYOUT)?;
-    let mut two = board.split(&mut one);
+    let (board, mut one, mut two) = board_of_two(rt.alloc())?;
     assert!(rt; read(&board, &mut two, 0) == word(0, 0));
-    let Ok(()) = take(&board, &mut one, 0, 0, 0) else {
-        panic!(rt; "the buffer is there")
-    };
-    let Err(met) = take(&board, &mut two, 0, 0, 0) else {
-        panic!(rt; "the buffer is gone")
-    };
-    assert!(rt; met == EMPTY);
+    let takes = [
+        take(&board, &mut one, 0, 0, 0),
+        take(&board, &mut two, 0, 0, 0),
+    ];
+    assert!(rt; takes == [Ok(()), Err(EMPTY)]);
     Ok(())
 }
 
 #[test]
 fn of_two_seats_one_fills_a_cell(rt: HostRuntime) -> Result<(), Fail> {
-    let (board, mut one) = Board::<FreeWords>::make(rt.alloc(), LAYOUT)?;
-    let mut two = board.split(&mut one);
-    let Ok(()) = take(&board, &mut one, 0, 0, 0) else {
-        panic!(rt; "the small buffer is there")
-    };
-    let Ok(()) = take(&board, &mut two, 1, 0, 1) else {
-        panic!(rt; "the long buffer is there")
-    };
-    let Ok(()) = put(&board, &mut two, 3, 9, 1) else {
-        panic!(rt; "the cell is empty")
-    };
-    let Err(met) = put(&board, &mut one, 3, 7, 0) else {
-        panic!(rt; "the cell is full")
-    };
-    assert!(rt; met == word(9, 1));
+    let (board, mut one, mut two) = board_of_two(rt.alloc())?;
+    let puts = [
+        carry(&board, &mut two, 1, 3, 9),
+        carry(&board, &mut one, 0, 3, 7),
+    ];
+    assert!(rt; puts == [Ok(()), Err(word(9, 1))]);
     Ok(())
 }
 
 #[test]
 fn a_buffer_comes_back_as_it_was_stowed(rt: HostRuntime) -> Result<(), Fail> {
-    let (board, mut seat) = Board::<FreeWords>::make(rt.alloc(), LAYOUT)?;
-    let Ok(()) = take(&board, &mut seat, 1, 0, 1) else {
-        panic!(rt; "the buffer is there")
-    };
-    sign(&board, &mut seat, 1, 254);
-    let Ok(()) = put(&board, &mut seat, 1, 0, 1) else {
-        panic!(rt; "the free cell is empty")
-    };
-    let Ok(closed) = board.close(seat) else {
-        panic!(rt; "no seat is out")
-    };
-    let [small, long] = closed.buffers.as_slice() else {
-        panic!(rt; "two buffers")
-    };
-    let signed = [(small.from, small.signal), (long.from, long.signal)];
-    assert!(rt; signed == [(1, false), (254, true)]);
+    let (board, mut seat) = board_of_one(rt.alloc())?;
+    assert!(rt; sign_at_home(&board, &mut seat, 1, 254));
+    let closed = board.close(seat).ok().ok_or("no seat is out")?;
+    assert!(rt; signs(&closed) == Some([(false, 1), (true, 254)]));
     Ok(())
 }

@@ -1,7 +1,7 @@
 //! Moves of packets under the plain law by hands that hold one packet or none.
 ghost use Rattle.std.specs.Prelude.{◌≡◌, ◌+◌, ◌<◌, ◌≤◌, Some, None, MatchOption, MatchResult};
 ghost use Rattle.packet_board.specs.Hands.{HoldsNothing};
-ghost use Rattle.packet_board.specs.Seats.{view, held, IsSeatOf, IsSameSeat};
+ghost use Rattle.packet_board.specs.Seats.{view, held, IsSeatOf};
 ghost use Rattle.packet_pool.specs.Cells.{last_order};
 ghost use Rattle.packet_pool.specs.Packets.{board_of, layout_in};
 ghost use Rattle.wire_tests.specs.Moves.{HoldsPacket, SamePoster, PostsBelow};
@@ -13,7 +13,7 @@ use packet_pool::{NoPacket, Packet, PlainLaw, Pool};
 pub(crate) fn take(pool: &Pool<PlainLaw>, seat: &mut Seat<PlainLaw>) -> Option<Packet>
     requires seat { IsSeatOf (board_of pool.now) seat.old }
     requires empty { HoldsNothing (held seat.old) }
-    ensures seat { IsSameSeat seat.old seat.new }
+    ensures seat { IsSeatOf (board_of pool.now) seat.new }
     ensures notes { SamePoster (view seat.old) (view seat.new) }
     ensures held { MatchOption result (HoldsNothing (held seat.new)) (HoldsPacket (layout_in pool.now) (held seat.new)) }
 {
@@ -27,7 +27,7 @@ pub(crate) fn take(pool: &Pool<PlainLaw>, seat: &mut Seat<PlainLaw>) -> Option<P
 pub(crate) fn give(pool: &Pool<PlainLaw>, seat: &mut Seat<PlainLaw>, packet: Packet)
     requires seat { IsSeatOf (board_of pool.now) seat.old }
     requires packet { HoldsPacket (layout_in pool.now) (held seat.old) packet }
-    ensures seat { IsSameSeat seat.old seat.new }
+    ensures seat { IsSeatOf (board_of pool.now) seat.new }
     ensures notes { SamePoster (view seat.old) (view seat.new) }
     ensures empty { HoldsNothing (held seat.new) }
 {
@@ -45,7 +45,7 @@ pub(crate) fn post(
     requires seat { IsSeatOf (board_of pool.now) seat.old }
     requires packet { HoldsPacket (layout_in pool.now) (held seat.old) packet }
     requires order { PostsBelow order (view seat.old) × (order < last_order) }
-    ensures seat { IsSameSeat seat.old seat.new }
+    ensures seat { IsSeatOf (board_of pool.now) seat.new }
     ensures order { PostsBelow (order + 1) (view seat.new) }
     ensures held { MatchResult result (λ _. HoldsNothing (held seat.new)) (HoldsPacket (layout_in pool.now) (held seat.new)) }
 {
@@ -60,7 +60,7 @@ pub(crate) fn post(
 pub(crate) fn claim(pool: &Pool<PlainLaw>, seat: &mut Seat<PlainLaw>) -> Result<Packet, NoPacket>
     requires seat { IsSeatOf (board_of pool.now) seat.old }
     requires empty { HoldsNothing (held seat.old) }
-    ensures seat { IsSameSeat seat.old seat.new }
+    ensures seat { IsSeatOf (board_of pool.now) seat.new }
     ensures notes { SamePoster (view seat.old) (view seat.new) }
     ensures held { MatchResult result (HoldsPacket (layout_in pool.now) (held seat.new)) (λ _. HoldsNothing (held seat.new)) }
 {
@@ -71,7 +71,7 @@ pub(crate) fn claim(pool: &Pool<PlainLaw>, seat: &mut Seat<PlainLaw>) -> Result<
 pub(crate) fn takes(pool: &Pool<PlainLaw>, seat: &mut Seat<PlainLaw>) -> bool
     requires seat { IsSeatOf (board_of pool.now) seat.old }
     requires empty { HoldsNothing (held seat.old) }
-    ensures seat { IsSameSeat seat.old seat.new }
+    ensures seat { IsSeatOf (board_of pool.now) seat.new }
     ensures notes { SamePoster (view seat.old) (view seat.new) }
     ensures empty { HoldsNothing (held seat.new) }
 {
@@ -94,7 +94,7 @@ pub(crate) fn posts(
     requires seat { IsSeatOf (board_of pool.now) seat.old }
     requires packet { HoldsPacket (layout_in pool.now) (held seat.old) packet }
     requires order { PostsBelow order (view seat.old) × (order < last_order) }
-    ensures seat { IsSameSeat seat.old seat.new }
+    ensures seat { IsSeatOf (board_of pool.now) seat.new }
     ensures order { PostsBelow (order + 1) (view seat.new) }
     ensures empty { HoldsNothing (held seat.new) }
 {
@@ -111,7 +111,7 @@ pub(crate) fn posts(
 pub(crate) fn claims(pool: &Pool<PlainLaw>, seat: &mut Seat<PlainLaw>) -> bool
     requires seat { IsSeatOf (board_of pool.now) seat.old }
     requires empty { HoldsNothing (held seat.old) }
-    ensures seat { IsSameSeat seat.old seat.new }
+    ensures seat { IsSeatOf (board_of pool.now) seat.new }
     ensures notes { SamePoster (view seat.old) (view seat.new) }
     ensures empty { HoldsNothing (held seat.new) }
 {
@@ -124,11 +124,28 @@ pub(crate) fn claims(pool: &Pool<PlainLaw>, seat: &mut Seat<PlainLaw>) -> bool
     }
 }
 
+/// Claims a packet, gives its buffer back, and says whether it is that of this number.
+pub(crate) fn claims_that(pool: &Pool<PlainLaw>, seat: &mut Seat<PlainLaw>, number: u16) -> bool
+    requires seat { IsSeatOf (board_of pool.now) seat.old }
+    requires empty { HoldsNothing (held seat.old) }
+    ensures seat { IsSeatOf (board_of pool.now) seat.new }
+    ensures empty { HoldsNothing (held seat.new) }
+{
+    match claim(pool, seat) {
+        Err(_) => false,
+        Ok(packet) => {
+            let is_that = packet.has(number);
+            give(pool, seat, packet);
+            is_that
+        }
+    }
+}
+
 /// Claims so many times, and counts the packets.
 pub(crate) fn claim_rounds(pool: &Pool<PlainLaw>, seat: &mut Seat<PlainLaw>, rounds: u64) -> u64
     requires seat { IsSeatOf (board_of pool.now) seat.old }
     requires empty { HoldsNothing (held seat.old) }
-    ensures seat { IsSameSeat seat.old seat.new }
+    ensures seat { IsSeatOf (board_of pool.now) seat.new }
     ensures empty { HoldsNothing (held seat.new) }
     ensures counted { result ≤ rounds }
 {
@@ -146,7 +163,7 @@ pub(crate) fn take_and_post(pool: &Pool<PlainLaw>, seat: &mut Seat<PlainLaw>, or
     requires seat { IsSeatOf (board_of pool.now) seat.old }
     requires empty { HoldsNothing (held seat.old) }
     requires order { PostsBelow order (view seat.old) × (order < last_order) }
-    ensures seat { IsSameSeat seat.old seat.new }
+    ensures seat { IsSeatOf (board_of pool.now) seat.new }
     ensures empty { HoldsNothing (held seat.new) }
     ensures order { PostsBelow (order + 1) (view seat.new) }
 {
@@ -156,12 +173,34 @@ pub(crate) fn take_and_post(pool: &Pool<PlainLaw>, seat: &mut Seat<PlainLaw>, or
     }
 }
 
+/// Claims a packet and posts it again, and says whether both was done and the packet is that of this number.
+pub(crate) fn claim_and_post(
+    pool: &Pool<PlainLaw>,
+    seat: &mut Seat<PlainLaw>,
+    number: u16,
+    order: u64,
+) -> bool
+    requires seat { IsSeatOf (board_of pool.now) seat.old }
+    requires empty { HoldsNothing (held seat.old) }
+    requires order { PostsBelow order (view seat.old) × (order < last_order) }
+    ensures seat { IsSeatOf (board_of pool.now) seat.new }
+    ensures empty { HoldsNothing (held seat.new) }
+{
+    match claim(pool, seat) {
+        Err(_) => false,
+        Ok(packet) => {
+            let is_that = packet.has(number);
+            posts(pool, seat, packet, order) && is_that
+        }
+    }
+}
+
 /// Posts under the orders below that one, and counts the packets.
 pub(crate) fn post_rounds(pool: &Pool<PlainLaw>, seat: &mut Seat<PlainLaw>, rounds: u64) -> u64
     requires seat { IsSeatOf (board_of pool.now) seat.old }
     requires empty { HoldsNothing (held seat.old) }
     requires order { PostsBelow 0 (view seat.old) × (rounds ≤ last_order) }
-    ensures seat { IsSameSeat seat.old seat.new }
+    ensures seat { IsSeatOf (board_of pool.now) seat.new }
     ensures empty { HoldsNothing (held seat.new) }
     ensures order { PostsBelow rounds (view seat.new) }
     ensures counted { result ≤ rounds }

@@ -4,7 +4,7 @@ use std::alloc::{AllocError, Global};
 use std::test::Fail;
 
 /// A text of this many bytes, none of which is zero.
-fn text_of(alloc: Global, len: usize) -> Result<Vec<u8>, AllocError> {
+pub(crate) fn text_of(alloc: Global, len: usize) -> Result<Vec<u8>, AllocError> {
     let mut text = Vec::new(alloc);
     for i in 0..len {
         text.push((i % 251) as u8 + 1)?;

@@ -1,45 +1,93 @@
 //! Pools under the plain law.
-ghost use Rattle.std.specs.Prelude.{◌≡◌, [], ◌∷◌, IsTrue};
-ghost use Rattle.packet_board.specs.Seats.{held, IsSeatOf, IsSameSeat};
+ghost use Rattle.std.specs.Prelude.{◌≡◌, ◌≤◌, ◌<◌, ◌^◌, ◌+◌, true, [], IsTrue, IfOk, IfSome};
+ghost use Rattle.packet_board.specs.Hands.{HoldsNothing};
+ghost use Rattle.packet_board.specs.Seats.{view, held, IsSeatOf};
+ghost use Rattle.packet_pool.specs.Cells.{last_order};
 ghost use Rattle.packet_pool.specs.Packets.{board_of, layout_in, number_of};
-ghost use Rattle.wire_tests.specs.Moves.{HoldsPacket};
+ghost use Rattle.wire_tests.specs.Moves.{plain_layout, HoldsPacket, PostsBelow};
 
 use crate::moves::{
-    claim, claim_rounds, claims, give, post, post_rounds, posts, take, take_and_post, takes,
+    claim_and_post, claim_rounds, claims, claims_that, give, post, post_rounds, posts, take,
+    take_and_post, takes,
 };
 use ff_io::Station;
-use packet_board::{Layout, Seat};
+use packet_board::{Closed, Layout, Seat, Word};
 use packet_pool::{Packet, PlainLaw, Pool, Unread};
 use rpc_header::{Activity, CallId, CallNumber, Export, Header, HeaderFault, Kind, fits};
+use std::alloc::{AllocError, Global};
 use std::test::Fail;
 use std::thread::join_mut;
 use udp_frames::{FrameFault, write_headers};
 
-/// A layout without long buffers.
-const fn layout(small: usize, ready: usize) -> Layout
-    ensures { result ≡ record { small = small; long = 0; rows = ready ∷ 0 ∷ 0 ∷ 0 ∷ 0 ∷ [] } }
+/// A new pool of so many small buffers and ready cells, and its first seat.
+pub(crate) fn pool_of_one(
+    alloc: Global,
+    small: usize,
+    ready: usize,
+) -> Result<(Pool<PlainLaw>, Seat<PlainLaw>), AllocError>
+    requires few { (small ≤ 4095) × (ready < 2 ^ 16) }
+    ensures seat { IfOk result (λ made. IsSeatOf (board_of made.0) made.1) }
+    ensures empty { IfOk result (λ made. HoldsNothing (held made.1)) }
+    ensures right { IfOk result (λ made. (view made.1).notes.right ≡ true) }
+    ensures posted { IfOk result (λ made. (view made.1).notes.posted ≡ []) }
 {
-    Layout {
+    let layout = Layout {
         small,
         long: 0,
         rows: [ready, 0, 0, 0, 0],
-    }
+    };
+    Pool::make(alloc, layout)
+}
+
+/// A new pool and its first two seats.
+pub(crate) fn pool_of_two(
+    alloc: Global,
+    small: usize,
+    ready: usize,
+) -> Result<(Pool<PlainLaw>, Seat<PlainLaw>, Seat<PlainLaw>), AllocError>
+    requires few { (small ≤ 4095) × (ready < 2 ^ 16) }
+    ensures seats { IfOk result (λ made. IsSeatOf (board_of made.0) made.1 × IsSeatOf (board_of made.0) made.2) }
+    ensures empty { IfOk result (λ made. HoldsNothing (held made.1) × HoldsNothing (held made.2)) }
+    ensures right { IfOk result (λ made. (view made.1).notes.right ≡ true) }
+    ensures posted { IfOk result (λ made. (view made.1).notes.posted ≡ []) }
+    ensures layout { IfOk result (λ made. layout_in made.0 ≡ plain_layout small ready) }
+{
+    let layout = Layout {
+        small,
+        long: 0,
+        rows: [ready, 0, 0, 0, 0],
+    };
+    let (pool, mut one) = Pool::<PlainLaw>::make(alloc, layout)?;
+    let two = pool.board().split(&mut one);
+    Ok((pool, one, two))
+}
+
+/// Joins the other seat, claims what still waits, up to three packets, and closes the pool: how many they are, and what
+/// is left.
+fn claim_and_close(
+    pool: Pool<PlainLaw>,
+    mut seat: Seat<PlainLaw>,
+    other: Seat<PlainLaw>,
+) -> Option<(u64, Closed)>
+    requires seats { IsSeatOf (board_of pool) seat × IsSeatOf (board_of pool) other }
+    requires empty { HoldsNothing (held seat) × HoldsNothing (held other) }
+    requires right { (view seat).notes.right ≡ true }
+{
+    pool.board().join(&mut seat, other);
+    let claimed = claim_rounds(&pool, &mut seat, 3);
+    Some((claimed, pool.close(seat).ok()?))
 }
 
 #[test]
 fn a_pool_closes_when_all_seats_are_joined(rt: HostRuntime) -> Result<(), Fail> {
-    let (pool, mut seat) = Pool::<PlainLaw>::make(rt.alloc(), layout(1, 0))?;
-    let other = pool.board().split(&mut seat);
-    let (pool, mut seat, out) = match pool.close(seat) {
+    let (pool, seat, other) = pool_of_two(rt.alloc(), 1, 0)?;
+    let (pool, seat, out) = match pool.close(seat) {
         Ok(_) => panic!(rt; "a seat is out"),
         Err(back) => back,
     };
     assert!(rt; out == 1);
-    pool.board().join(&mut seat, other);
-    let Ok(closed) = pool.close(seat) else {
-        panic!(rt; "no seat is out")
-    };
-    assert!(rt; closed.buffers.len() == 1);
+    let (claimed, closed) = claim_and_close(pool, seat, other).ok_or("no seat is out")?;
+    assert!(rt; (claimed, closed.buffers.len()) == (0, 1));
     Ok(())
 }
 
@@ -47,7 +95,7 @@ fn a_pool_closes_when_all_seats_are_joined(rt: HostRuntime) -> Result<(), Fail> 
 fn none_left(pool: &Pool<PlainLaw>, seat: &mut Seat<PlainLaw>, packet: &Packet) -> bool
     requires seat { IsSeatOf (board_of pool.now) seat.old }
     requires packet { HoldsPacket (layout_in pool.now) (held seat.old) packet.now }
-    ensures seat { IsSameSeat seat.old seat.new }
+    ensures seat { IsSeatOf (board_of pool.now) seat.new }
     ensures packet { IsTrue result → HoldsPacket (layout_in pool.now) (held seat.new) packet.now }
 {
     match pool.take(seat) {
@@ -63,7 +111,7 @@ fn none_left(pool: &Pool<PlainLaw>, seat: &mut Seat<PlainLaw>, packet: &Packet) 
 fn one_small_buffer_is_taken_once_and_again_after_it_was_given(
     rt: HostRuntime,
 ) -> Result<(), Fail> {
-    let (pool, mut seat) = Pool::<PlainLaw>::make(rt.alloc(), layout(1, 0))?;
+    let (pool, mut seat) = pool_of_one(rt.alloc(), 1, 0)?;
     let Some(packet) = take(&pool, &mut seat) else {
         panic!(rt; "the buffer is free")
     };
@@ -78,76 +126,81 @@ fn one_small_buffer_is_taken_once_and_again_after_it_was_given(
     Ok(())
 }
 
+/// Whether the second seat finds no packet while the first one has one; or none, where the first one finds none.
+fn keeps_out(
+    pool: &Pool<PlainLaw>,
+    first: &mut Seat<PlainLaw>,
+    second: &mut Seat<PlainLaw>,
+) -> Option<bool>
+    requires seats { IsSeatOf (board_of pool.now) first.old × IsSeatOf (board_of pool.now) second.old }
+    requires empty { HoldsNothing (held first.old) × HoldsNothing (held second.old) }
+    ensures seats { IsSeatOf (board_of pool.now) first.new × IsSeatOf (board_of pool.now) second.new }
+    ensures empty { HoldsNothing (held first.new) × HoldsNothing (held second.new) }
+{
+    let packet = take(pool, first)?;
+    let is_out = !takes(pool, second);
+    give(pool, first, packet);
+    Some(is_out)
+}
+
 #[test]
 fn of_two_seats_one_takes_the_buffer(rt: HostRuntime) -> Result<(), Fail> {
-    let (pool, mut one) = Pool::<PlainLaw>::make(rt.alloc(), layout(1, 0))?;
-    let mut two = pool.board().split(&mut one);
-    let Some(packet) = take(&pool, &mut one) else {
-        panic!(rt; "the buffer is free")
-    };
-    assert!(rt; !takes(&pool, &mut two));
-    give(&pool, &mut one, packet);
-    let Some(packet) = take(&pool, &mut two) else {
-        panic!(rt; "the buffer is free again")
-    };
-    assert!(rt; !takes(&pool, &mut one));
-    give(&pool, &mut two, packet);
+    let (pool, mut one, mut two) = pool_of_two(rt.alloc(), 1, 0)?;
+    let kept_out = [
+        keeps_out(&pool, &mut one, &mut two),
+        keeps_out(&pool, &mut two, &mut one),
+    ];
+    assert!(rt; kept_out == [Some(true); 2]);
     Ok(())
 }
 
 #[test]
 fn the_least_order_is_claimed_first(rt: HostRuntime) -> Result<(), Fail> {
-    let (pool, mut seat) = Pool::<PlainLaw>::make(rt.alloc(), layout(3, 2))?;
-    let Some(first) = take(&pool, &mut seat) else {
-        panic!(rt; "three are free")
-    };
-    assert!(rt; posts(&pool, &mut seat, first, 5));
-    let Some(second) = take(&pool, &mut seat) else {
-        panic!(rt; "two are free")
-    };
-    assert!(rt; posts(&pool, &mut seat, second, 6));
-    let Ok(first) = claim(&pool, &mut seat) else {
-        panic!(rt; "two wait")
-    };
-    assert!(rt; first.has(0));
-    // It goes into the former ready cell, and yet comes last.
-    assert!(rt; posts(&pool, &mut seat, first, 7));
-    let Ok(second) = claim(&pool, &mut seat) else {
-        panic!(rt; "two wait")
-    };
-    assert!(rt; second.has(1));
-    give(&pool, &mut seat, second);
+    let (pool, mut seat) = pool_of_one(rt.alloc(), 3, 2)?;
+    let moved = [
+        take_and_post(&pool, &mut seat, 5),
+        take_and_post(&pool, &mut seat, 6),
+        // It goes into the former ready cell, and yet comes last.
+        claim_and_post(&pool, &mut seat, 0, 7),
+        claims_that(&pool, &mut seat, 1),
+    ];
+    assert!(rt; moved == [true; 4]);
     Ok(())
+}
+
+/// Takes a packet and posts it in vain: the packet that comes back.
+fn refused(pool: &Pool<PlainLaw>, seat: &mut Seat<PlainLaw>, order: u64) -> Option<Packet>
+    requires seat { IsSeatOf (board_of pool.now) seat.old }
+    requires empty { HoldsNothing (held seat.old) }
+    requires order { PostsBelow order (view seat.old) × (order < last_order) }
+    ensures seat { IsSeatOf (board_of pool.now) seat.new }
+    ensures order { IfSome result (λ _. PostsBelow (order + 1) (view seat.new)) }
+    ensures packet { IfSome result (HoldsPacket (layout_in pool.now) (held seat.new)) }
+{
+    let packet = take(pool, seat)?;
+    post(pool, seat, packet, order).err()
 }
 
 #[test]
 fn a_packet_comes_back_until_another_seat_has_claimed(rt: HostRuntime) -> Result<(), Fail> {
-    let (pool, mut one) = Pool::<PlainLaw>::make(rt.alloc(), layout(2, 1))?;
-    let mut two = pool.board().split(&mut one);
-    let Some(first) = take(&pool, &mut one) else {
-        panic!(rt; "two are free")
+    let (pool, mut one, mut two) = pool_of_two(rt.alloc(), 2, 1)?;
+    let posted = take_and_post(&pool, &mut one, 1);
+    let Some(second) = refused(&pool, &mut one, 2) else {
+        panic!(rt; "one is free, and the ready cell is full")
     };
-    assert!(rt; posts(&pool, &mut one, first, 1));
-    let Some(second) = take(&pool, &mut one) else {
-        panic!(rt; "one is free")
-    };
-    let Err(second) = post(&pool, &mut one, second, 2) else {
-        panic!(rt; "the ready cell is full")
-    };
-    assert!(rt; second.has(1));
-    assert!(rt; claims(&pool, &mut two));
-    assert!(rt; posts(&pool, &mut one, second, 3));
+    let is_second = second.has(1);
+    let claimed = claims(&pool, &mut two);
+    let again = posts(&pool, &mut one, second, 3);
+    assert!(rt; [posted, is_second, claimed, again] == [true; 4]);
     Ok(())
 }
 
 #[test]
 fn a_pool_without_buffers_gives_none(rt: HostRuntime) -> Result<(), Fail> {
-    let (pool, mut seat) = Pool::<PlainLaw>::make(rt.alloc(), layout(0, 1))?;
-    assert!(rt; !takes(&pool, &mut seat));
-    assert!(rt; !claims(&pool, &mut seat));
-    let Ok(closed) = pool.close(seat) else {
-        panic!(rt; "no seat is out")
-    };
+    let (pool, mut seat) = pool_of_one(rt.alloc(), 0, 1)?;
+    let moved = [takes(&pool, &mut seat), claims(&pool, &mut seat)];
+    assert!(rt; moved == [false, false]);
+    let closed = pool.close(seat).ok().ok_or("no seat is out")?;
     assert!(rt; closed.buffers.is_empty());
     Ok(())
 }
@@ -188,51 +241,45 @@ fn sealed(packet: &mut Packet, from: Station, to: Station) -> bool
 
 #[test]
 fn what_was_sealed_is_read_back(rt: HostRuntime) -> Result<(), Fail> {
-    let (pool, mut seat) = Pool::<PlainLaw>::make(rt.alloc(), layout(1, 0))?;
+    let (pool, mut seat) = pool_of_one(rt.alloc(), 1, 0)?;
     let (one, two) = (Station { machine: 1 }, Station { machine: 2 });
     let Some(mut packet) = take(&pool, &mut seat) else {
         panic!(rt; "the buffer is free")
     };
     assert!(rt; sealed(&mut packet, two, one));
     packet.set(true, 0);
-    let n = packet.frame().len();
-    assert!(rt; n == 74);
-    assert!(rt; packet.read(79, two) == Err(Unread::Frame(FrameFault::NotForUs)));
-    assert!(rt; packet.payload().len() == 0);
+    let first = (
+        packet.frame().len(),
+        packet.read(79, two),
+        packet.payload().len(),
+    );
+    assert!(rt; first == (74, Err(Unread::Frame(FrameFault::NotForUs)), 0));
     assert!(rt; packet.read(79, one) == Ok(()));
-    assert!(rt; packet.payload() == b"hello".as_slice());
-    assert!(rt; *packet.header() == CALL);
-    assert!(rt; packet.from() == two);
-    assert!(rt; packet.is_signal());
+    assert!(rt; (packet.payload(), packet.header()) == (b"hello".as_slice(), &CALL));
+    assert!(rt; (packet.from(), packet.is_signal()) == (two, true));
     // Data that is no header: the frame is right, and its data too short.
     write_headers(packet.whole(), one, two, 31);
-    assert!(rt; packet.read(73, two) == Err(Unread::Header(HeaderFault::Short)));
-    assert!(rt; *packet.header() == CALL);
+    let last = (packet.read(73, two), *packet.header());
+    assert!(rt; last == (Err(Unread::Header(HeaderFault::Short)), CALL));
     give(&pool, &mut seat, packet);
     Ok(())
 }
 
 #[test]
 fn two_threads_move_packets_and_all_come_home(rt: HostRuntime) -> Result<(), Fail> {
-    let (pool, mut one) = Pool::<PlainLaw>::make(rt.alloc(), layout(4, 2))?;
-    let mut two = pool.board().split(&mut one);
+    let (pool, mut one, mut two) = pool_of_two(rt.alloc(), 4, 2)?;
     let (posted, claimed) = join_mut(
         &rt,
         &mut || post_rounds(&pool, &mut one, 2_000),
         &mut || claim_rounds(&pool, &mut two, 2_000),
     );
-    assert!(rt; claimed <= 2_000 && posted <= 2_000);
-    pool.board().join(&mut one, two);
     // What still waits is claimed, and the board closes with each buffer in its free cell.
-    let left = claim_rounds(&pool, &mut one, 3);
-    assert!(rt; posted == claimed + left);
-    let Ok(closed) = pool.close(one) else {
-        panic!(rt; "no seat is out")
-    };
-    assert!(rt; closed.buffers.len() == 4);
-    for (cell, word) in closed.words.as_slice().iter().enumerate() {
-        let own = if cell < 4 { Some(cell as u16) } else { None };
-        assert!(rt; word.buffer == own);
-    }
+    let (left, closed) = claim_and_close(pool, one, two).ok_or("no seat is out")?;
+    assert!(rt; (posted.checked_sub(claimed), closed.buffers.len()) == (Some(left), 4));
+    let at_home = [Some(0), Some(1), Some(2), Some(3), None, None].map(|buffer| Word {
+        tag: 0,
+        buffer,
+    });
+    assert!(rt; closed.words.as_slice() == at_home.as_slice());
     Ok(())
 }

@@ -1,25 +1,18 @@
 //! Two seats of which one steps between the two halves of the other's claim. The halves are steps on the pool's board:
 //! a claim looks at each ready cell, and then takes the packet that it chose by one exchange.
 ghost use Rattle.std.specs.Prelude.{◌≡◌, ◌<◌, ◌^◌, IfErr};
-ghost use Rattle.packet_board.specs.Seats.{view, held, IsSeatOf, IsSameSeat};
-ghost use Rattle.packet_pool.specs.Cells.{IsReadyCell};
+ghost use Rattle.packet_board.specs.Seats.{view, held, IsSeatOf};
 ghost use Rattle.packet_pool.specs.Packets.{board_of, layout_in};
-ghost use Rattle.wire_tests.specs.Moves.{SamePoster};
+ghost use Rattle.wire_tests.specs.Moves.{plain_layout, SamePoster};
 
-use crate::moves::{claim, claims, give, take_and_post};
-use packet_board::{Layout, Seat, Word};
+use crate::moves::{claims, take_and_post};
+use crate::pools::pool_of_two;
+use packet_board::{Seat, Word};
 use packet_pool::{PlainLaw, Pool};
 use std::marker::Brand;
 use std::test::Fail;
 
-/// One small buffer and one ready cell.
-const LAYOUT: Layout = Layout {
-    small: 1,
-    long: 0,
-    rows: [1, 0, 0, 0, 0],
-};
-
-/// The ready cell.
+/// The ready cell of a pool of one buffer and one ready cell.
 const READY: usize = 1;
 
 /// What the ready cell holds while the packet waits in it under that order.
@@ -33,8 +26,8 @@ fn ready(order: u64) -> Word {
 /// The first half of a claim.
 fn look(pool: &Pool<PlainLaw>, seat: &mut Seat<PlainLaw>) -> Word
     requires seat { IsSeatOf (board_of pool.now) seat.old }
-    requires cell { IsReadyCell (layout_in pool.now) READY }
-    ensures seat { IsSameSeat seat.old seat.new }
+    requires layout { layout_in pool.now ≡ plain_layout 1 1 }
+    ensures seat { IsSeatOf (board_of pool.now) seat.new }
     ensures notes { SamePoster (view seat.old) (view seat.new) }
     ensures held { held seat.new ≡ held seat.old }
 {
@@ -44,9 +37,9 @@ fn look(pool: &Pool<PlainLaw>, seat: &mut Seat<PlainLaw>) -> Word
 /// The second half, after the packet was seen under that order; or the word that it meets in place of the packet.
 fn claim_seen(pool: &Pool<PlainLaw>, seat: &mut Seat<PlainLaw>, order: u64) -> Result<(), Word>
     requires seat { IsSeatOf (board_of pool.now) seat.old }
-    requires cell { IsReadyCell (layout_in pool.now) READY × (0 < (layout_in pool.now).small) }
+    requires layout { layout_in pool.now ≡ plain_layout 1 1 }
     requires order { order < 2 ^ 52 }
-    ensures seat { IsSameSeat seat.old seat.new }
+    ensures seat { IsSeatOf (board_of pool.now) seat.new }
     ensures lost { IfErr result (λ met. held seat.new ≡ held seat.old) }
 {
     let seen = Word {
@@ -62,19 +55,17 @@ fn claim_seen(pool: &Pool<PlainLaw>, seat: &mut Seat<PlainLaw>, order: u64) -> R
 
 #[test]
 fn of_two_seats_that_saw_a_packet_one_claims_it(rt: HostRuntime) -> Result<(), Fail> {
-    let (pool, mut one) = Pool::<PlainLaw>::make(rt.alloc(), LAYOUT)?;
-    let mut two = pool.board().split(&mut one);
-    assert!(rt; take_and_post(&pool, &mut one, 5));
-    assert!(rt; [look(&pool, &mut one), look(&pool, &mut two)] == [ready(5); 2]);
-    let Ok(packet) = claim(&pool, &mut two) else {
-        panic!(rt; "it is there")
-    };
+    let (pool, mut one, mut two) = pool_of_two(rt.alloc(), 1, 1)?;
+    let posted = take_and_post(&pool, &mut one, 5);
+    let seen = [look(&pool, &mut one), look(&pool, &mut two)];
+    let claimed = claims(&pool, &mut two);
+    let met = claim_seen(&pool, &mut one, 5);
     let empty = Word {
         tag: 0,
         buffer: None,
     };
-    assert!(rt; claim_seen(&pool, &mut one, 5) == Err(empty));
-    give(&pool, &mut two, packet);
+    assert!(rt; [posted, claimed] == [true; 2]);
+    assert!(rt; (seen, met) == ([ready(5); 2], Err(empty)));
     Ok(())
 }
 
@@ -82,16 +73,16 @@ fn of_two_seats_that_saw_a_packet_one_claims_it(rt: HostRuntime) -> Result<(), F
 fn a_packet_posted_again_is_not_claimed_under_its_former_order(
     rt: HostRuntime,
 ) -> Result<(), Fail> {
-    let (pool, mut one) = Pool::<PlainLaw>::make(rt.alloc(), LAYOUT)?;
-    let mut two = pool.board().split(&mut one);
-    assert!(rt; take_and_post(&pool, &mut one, 5));
-    assert!(rt; look(&pool, &mut two) == ready(5));
-    assert!(rt; claims(&pool, &mut one));
-    assert!(rt; take_and_post(&pool, &mut one, 6));
+    let (pool, mut one, mut two) = pool_of_two(rt.alloc(), 1, 1)?;
+    let posted = take_and_post(&pool, &mut one, 5);
+    let seen = look(&pool, &mut two);
+    let claimed = claims(&pool, &mut one);
+    let again = take_and_post(&pool, &mut one, 6);
     let Err(met) = claim_seen(&pool, &mut two, 5) else {
         panic!(rt; "it is posted again")
     };
-    assert!(rt; met == ready(6));
-    assert!(rt; claims(&pool, &mut two));
+    let last = claims(&pool, &mut two);
+    assert!(rt; [posted, claimed, again, last] == [true; 4]);
+    assert!(rt; [seen, met] == [ready(5), ready(6)]);
     Ok(())
 }

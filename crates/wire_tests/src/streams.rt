@@ -1,4 +1,5 @@
 //! Sources and sinks: each call once, at a concrete type, with real memory.
+use crate::pieces::text_of;
 use ff_io::{
     FIRST_MACHINE, LAST_MACHINE, MemorySink, MemorySource, ReadAll, ReadFailed, Short, Sink,
     Source, Station, WriteFailed, read_all, write_all,
@@ -17,18 +18,38 @@ fn sink_of(alloc: Global, fail: &[u64], room: usize) -> Result<MemorySink, Alloc
     Ok(MemorySink::new(fail, Vec::with_capacity(alloc, room)?))
 }
 
-#[test]
-fn the_listed_calls_fail(rt: HostRuntime) -> Result<(), Fail> {
-    let mut source = source_of(rt.alloc(), b"abcde", &[1, 3])?;
-    let mut into = [0u8; 2];
-    let first = source.read(&mut into);
-    let second = source.read(&mut into);
-    let read = into;
-    let third = source.read(&mut into);
-    assert!(rt; [first, second, third] == [Err(ReadFailed), Ok(2), Err(ReadFailed)]);
-    assert!(rt; [read.as_slice(), source.left()] == [b"ab".as_slice(), b"cde".as_slice()]);
-    assert!(rt; source.faults() == 2);
+/// A read of two bytes: how many came, and the bytes.
+fn read_two(source: &mut MemorySource) -> Result<(usize, [u8; 2]), ReadFailed> {
+    let mut into = [0; 2];
+    let read = source.read(&mut into)?;
+    Ok((read, into))
+}
 
+/// What is read to the end of a source of these bytes.
+fn read_to_end(alloc: Global, bytes: &[u8], limit: usize) -> Result<Vec<u8>, ReadAll> {
+    let mut source = source_of(alloc, bytes, &[])?;
+    read_all(alloc, &mut source, limit)
+}
+
+fn length_read(alloc: Global, bytes: &[u8], limit: usize) -> Result<usize, ReadAll> {
+    Ok(read_to_end(alloc, bytes, limit)?.len())
+}
+
+#[test]
+fn the_listed_reads_fail(rt: HostRuntime) -> Result<(), Fail> {
+    let mut source = source_of(rt.alloc(), b"abcde", &[1, 3])?;
+    let reads = [
+        read_two(&mut source),
+        read_two(&mut source),
+        read_two(&mut source),
+    ];
+    assert!(rt; reads == [Err(ReadFailed), Ok((2, *b"ab")), Err(ReadFailed)]);
+    assert!(rt; (source.left(), source.faults()) == (b"cde".as_slice(), 2));
+    Ok(())
+}
+
+#[test]
+fn the_listed_writes_fail(rt: HostRuntime) -> Result<(), Fail> {
     let mut sink = sink_of(rt.alloc(), &[2], 5)?;
     let writes = [sink.write(b"ab"), sink.write(b"cd"), sink.write(b"ef")];
     assert!(rt; writes == [Ok(2), Err(WriteFailed), Ok(2)]);
@@ -37,23 +58,21 @@ fn the_listed_calls_fail(rt: HostRuntime) -> Result<(), Fail> {
 }
 
 #[test]
-fn a_source_is_read_to_its_end(rt: HostRuntime) -> Result<(), Fail> {
-    for (limit, want) in [(4, Err(ReadAll::TooLong)), (5, Ok(5)), (usize::MAX, Ok(5))] {
-        let mut source = source_of(rt.alloc(), b"hello", &[])?;
-        let got = read_all(rt.alloc(), &mut source, limit);
-        assert!(rt;
-            got.map(|bytes| bytes.len()) == want,
-            "with the limit {limit}"
-        );
-    }
-    let mut long = Vec::new(rt.alloc());
-    for i in 0..10_000u32 {
-        long.push((i % 251) as u8)?;
-    }
-    let mut source = source_of(rt.alloc(), &long, &[])?;
-    assert!(rt; read_all(rt.alloc(), &mut source, 10_000)?.as_slice() == long.as_slice());
-    let mut nothing = source_of(rt.alloc(), b"", &[])?;
-    assert!(rt; read_all(rt.alloc(), &mut nothing, 0)?.len() == 0);
+fn a_source_is_read_to_its_end(rt: HostRuntime) {
+    let alloc = rt.alloc();
+    let lengths = [
+        length_read(alloc, b"hello", 4),
+        length_read(alloc, b"hello", 5),
+        length_read(alloc, b"hello", usize::MAX),
+        length_read(alloc, b"", 0),
+    ];
+    assert!(rt; lengths == [Err(ReadAll::TooLong), Ok(5), Ok(5), Ok(0)]);
+}
+
+#[test]
+fn a_long_source_is_read_to_its_end(rt: HostRuntime) -> Result<(), Fail> {
+    let long = text_of(rt.alloc(), 10_000)?;
+    assert!(rt; read_to_end(rt.alloc(), &long, 10_000)?.as_slice() == long.as_slice());
     Ok(())
 }
 
