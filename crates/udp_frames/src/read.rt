@@ -1,5 +1,5 @@
 //! Frames read in place.
-ghost use Rattle.std.specs.Prelude.{◌≡◌, ◌+◌, ◌≤◌, ◌++◌, ◌↔◌, length, Ok, Err, IsTrue, is_some, IsOk, IfSome, IfOk, IfErr};
+ghost use Rattle.std.specs.Prelude.{◌≡◌, ◌+◌, ◌≤◌, ◌++◌, length, Ok, Err, is_some, IfSome, IfOk, IfErr};
 ghost use Rattle.lane_checksum.specs.PlainSum.{csum};
 ghost use Rattle.udp_frames.specs.Reading;
 
@@ -22,7 +22,9 @@ pub fn read_frame(buffer: &[u8], me: Station) -> Result<Seen<'_>, FrameFault>
     ensures seen { IfOk result (λ seen. Reading.reads buffer.now me.machine ≡ Ok (record { sender = seen.from.machine; payload = seen.payload.now })) }
     ensures fault { IfErr result (λ fault. Reading.reads buffer.now me.machine ≡ Err fault) }
 {
-    accept(buffer.len() >= HEADERS_LEN, FrameFault::Short)?;
+    if buffer.len() < HEADERS_LEN {
+        return Err(FrameFault::Short);
+    }
     check_ethernet(buffer, me)?;
     let from = check_internet(buffer, me)?;
     check_udp(buffer)?;
@@ -30,14 +32,6 @@ pub fn read_frame(buffer: &[u8], me: Station) -> Result<Seen<'_>, FrameFault>
         from,
         payload: &buffer[place::PAYLOAD..],
     })
-}
-
-/// Goes on where a test of the frame passes.
-fn accept(passes: bool, fault: FrameFault) -> Result<(), FrameFault>
-    ensures ok { IsOk result ↔ IsTrue passes }
-    ensures err { IfErr result (λ found. found ≡ fault) }
-{
-    if passes { Ok(()) } else { Err(fault) }
 }
 
 /// The number of 16 bits at a place.
@@ -54,10 +48,12 @@ fn check_ethernet(frame: &[u8], me: Station) -> Result<(), FrameFault>
     ensures { Reading.Finds result (Reading.ethernet_checks frame.now me.machine) }
 {
     let destination = &frame[place::ETHERNET_DESTINATION..place::ETHERNET_SOURCE];
-    let for_us = destination == ethernet_address(me).as_slice();
-    accept(for_us, FrameFault::NotForUs)?;
-    let carries_ip = number_at(frame, place::ETHERNET_TYPE) == TYPE_IP;
-    accept(carries_ip, FrameFault::NotIp)?;
+    if destination != ethernet_address(me).as_slice() {
+        return Err(FrameFault::NotForUs);
+    }
+    if number_at(frame, place::ETHERNET_TYPE) != TYPE_IP {
+        return Err(FrameFault::NotIp);
+    }
     Ok(())
 }
 
@@ -68,20 +64,27 @@ fn check_internet(frame: &[u8], me: Station) -> Result<Station, FrameFault>
     ensures from { IfOk result (λ from. from.machine ≡ Reading.source_machine frame.now) }
 {
     let version_and_length = frame[place::VERSION_AND_LENGTH];
-    accept(version_and_length >> 4 == VERSION_4, FrameFault::Version)?;
-    let no_options = version_and_length & 0x0f == HEADER_WORDS;
-    accept(no_options, FrameFault::Options)?;
+    if version_and_length >> 4 != VERSION_4 {
+        return Err(FrameFault::Version);
+    }
+    if version_and_length & 0x0f != HEADER_WORDS {
+        return Err(FrameFault::Options);
+    }
     let total_length = usize::from(number_at(frame, place::TOTAL_LENGTH));
-    let complete = total_length == frame.len() - place::INTERNET_HEADER;
-    accept(complete, FrameFault::IpLength)?;
-    let uncut = matches!(
-        number_at(frame, place::FLAGS_AND_OFFSET),
-        0 | DO_NOT_FRAGMENT
-    );
-    accept(uncut, FrameFault::IpFragment)?;
-    accept(frame[place::PROTOCOL] == PROTOCOL_UDP, FrameFault::NotUdp)?;
+    if total_length != frame.len() - place::INTERNET_HEADER {
+        return Err(FrameFault::IpLength);
+    }
+    match number_at(frame, place::FLAGS_AND_OFFSET) {
+        0 | DO_NOT_FRAGMENT => {}
+        _ => return Err(FrameFault::IpFragment),
+    }
+    if frame[place::PROTOCOL] != PROTOCOL_UDP {
+        return Err(FrameFault::NotUdp);
+    }
     let header = &frame[place::INTERNET_HEADER..place::UDP_HEADER];
-    accept(sum(header) == RIGHT_SUM, FrameFault::IpChecksum)?;
+    if sum(header) != RIGHT_SUM {
+        return Err(FrameFault::IpChecksum);
+    }
     sender(frame, me).ok_or(FrameFault::Address)
 }
 
@@ -114,14 +117,20 @@ fn check_udp(frame: &[u8]) -> Result<(), FrameFault>
 {
     let ports = number_at(frame, place::SOURCE_PORT) == PORT
         && number_at(frame, place::DESTINATION_PORT) == PORT;
-    accept(ports, FrameFault::Port)?;
+    if !ports {
+        return Err(FrameFault::Port);
+    }
     let udp_length = usize::from(number_at(frame, place::UDP_LENGTH));
     let total_length = usize::from(number_at(frame, place::TOTAL_LENGTH));
-    let complete = udp_length == total_length.saturating_sub(INTERNET_LEN);
-    accept(complete, FrameFault::UdpLength)?;
-    let has_checksum = number_at(frame, place::UDP_CHECKSUM) != 0;
-    accept(has_checksum, FrameFault::NoChecksum)?;
-    accept(udp_sum(frame) == RIGHT_SUM, FrameFault::UdpChecksum)?;
+    if udp_length != total_length.saturating_sub(INTERNET_LEN) {
+        return Err(FrameFault::UdpLength);
+    }
+    if number_at(frame, place::UDP_CHECKSUM) == 0 {
+        return Err(FrameFault::NoChecksum);
+    }
+    if udp_sum(frame) != RIGHT_SUM {
+        return Err(FrameFault::UdpChecksum);
+    }
     Ok(())
 }
 
