@@ -23,21 +23,21 @@ pub use writing::{fits, write_header};
 pub const CALL_NUMBER_LIMIT: u64 = 1 << 48;
 
 /// A thread of control that makes one call at a time, named by its machine and a process there.
-#[derive(Clone, Copy, PartialEq, Eq, PartialOrd, Ord, Hash, Debug)]
+#[derive(Clone, Copy, PartialEq, Eq, Debug)]
 pub struct Activity {
     pub machine: u32,
     pub process: u16,
 }
 
 /// The number of a call among the calls of its activity. It fits 6 bytes.
-#[derive(Clone, Copy, PartialEq, Eq, PartialOrd, Ord, Hash, Debug)]
+#[derive(Clone, Copy, PartialEq, Eq, PartialOrd, Ord, Debug)]
 pub struct CallNumber {
     pub value: u64,
     pub ghost below_limit: { value < 2 ^ 48 },
 }
 
 /// The name of a call: who made it, and its number there.
-#[derive(Clone, Copy, PartialEq, Eq, PartialOrd, Ord, Hash, Debug)]
+#[derive(Clone, Copy, PartialEq, Eq, Debug)]
 pub struct CallId {
     pub activity: Activity,
     pub number: CallNumber,
@@ -45,14 +45,14 @@ pub struct CallId {
 
 /// An exported interface at its server: where it stands in the server's table, and the identifier
 /// that tells it from every other export that stood there.
-#[derive(Clone, Copy, PartialEq, Eq, PartialOrd, Ord, Hash, Debug)]
+#[derive(Clone, Copy, PartialEq, Eq, Debug)]
 pub struct Export {
     pub identifier: u32,
     pub index: u16,
 }
 
 /// What a packet is for. Its number is the kind's byte in a header.
-#[derive(Clone, Copy, PartialEq, Eq, PartialOrd, Ord, Hash, Debug)]
+#[derive(Clone, Copy, PartialEq, Eq, Debug)]
 pub enum Kind {
     /// A piece of a call's arguments.
     Call = 1,
