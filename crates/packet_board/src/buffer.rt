@@ -10,7 +10,7 @@ use std::alloc::{AllocError, Global};
 pub const SMALL_BYTES: usize = 1514;
 
 /// A packet's bytes, and what is known of them. `bytes` has 1514 bytes in a small buffer and 92,160 in a long one.
-#[derive(Debug, Drop)]
+#[derive(Drop)]
 pub struct Buffer {
     pub bytes: Items<u8>,
     /// The header that was read from the bytes, or written into them.

@@ -7,7 +7,7 @@ use fragments::LONG;
 
 /// The numbers of small and of long buffers, and the lengths of five rows of cells. The cells of a board are a free
 /// cell for each buffer, in the order of the buffers' numbers, and then the rows. Small buffers have the first numbers.
-#[derive(Clone, Copy, PartialEq, Eq, Debug)]
+#[derive(Clone, Copy)]
 pub struct Layout {
     pub small: usize,
     pub long: usize,

@@ -14,7 +14,6 @@ pub const DATA_AT: usize = HEADERS_LEN + HEADER_LEN;
 
 /// A small buffer in a seat's hands: its number, and what the board keeps of a buffer. It must be spent: it is given back
 /// or posted, and cannot be dropped.
-#[derive(Debug)]
 pub struct Packet {
     pub(crate) number: u16,
     pub(crate) bytes: Vec<u8>,
@@ -27,7 +26,6 @@ pub struct Packet {
 }
 
 /// A long buffer in a seat's hands. It must be spent too.
-#[derive(Debug)]
 pub struct LongPacket {
     pub(crate) number: u16,
     pub(crate) bytes: Vec<u8>,
