@@ -38,7 +38,7 @@ cat > "$bench/src/main.rt" <<'RATTLE'
 ghost use Rattle.std.specs.Thread.{IsSync};
 ghost use Rattle.std.specs.Prelude.{◌≡◌, ◌≤◌, true};
 ghost use Rattle.packet_board.specs.Hands.{HoldsNothing};
-ghost use Rattle.packet_board.specs.Seats.{view, held, IsSeatOf, IsSameSeat};
+ghost use Rattle.packet_board.specs.Seats.{view, held, IsSeatOf};
 ghost use Rattle.packet_pool.specs.Cells.{last_order};
 ghost use Rattle.packet_pool.specs.Packets.{board_of};
 ghost use Rattle.pool_bench.specs.Moves.{PostsBelow};
@@ -79,7 +79,7 @@ enum What {
 fn take_rounds(pool: &Pool<PlainLaw>, seat: &mut Seat<PlainLaw>, rounds: u64) -> u64
     requires seat { IsSeatOf (board_of pool.now) seat.old }
     requires empty { HoldsNothing (held seat.old) }
-    ensures seat { IsSameSeat seat.old seat.new }
+    ensures seat { IsSeatOf (board_of pool.now) seat.new }
     ensures empty { HoldsNothing (held seat.new) }
     ensures counted { result ≤ rounds }
 {
@@ -97,7 +97,7 @@ fn post_and_claim_rounds(pool: &Pool<PlainLaw>, seat: &mut Seat<PlainLaw>, round
     requires seat { IsSeatOf (board_of pool.now) seat.old }
     requires empty { HoldsNothing (held seat.old) }
     requires order { PostsBelow 0 (view seat.old) × (rounds ≤ last_order) }
-    ensures seat { IsSameSeat seat.old seat.new }
+    ensures seat { IsSeatOf (board_of pool.now) seat.new }
     ensures empty { HoldsNothing (held seat.new) }
     ensures order { PostsBelow rounds (view seat.new) }
     ensures counted { result ≤ rounds }
@@ -321,12 +321,13 @@ mkdir "$bench/proofs/take_rounds"
 cat > "$bench/proofs/take_rounds/Invariants.antt" <<'ANTT'
 use Rattle.std.proofs.Common.{◌≤◌}
 use Rattle.packet_board.specs.Hands.{HoldsNothing}
-use Rattle.packet_board.specs.Seats.{held, IsSameSeat}
+use Rattle.packet_board.specs.Seats.{held, IsSeatOf}
+use Rattle.packet_pool.specs.Packets.{board_of}
 use Rattle.pool_bench.proofs.take_rounds.Given as goal
 
 abbrev pub invariant-loop-round : goal.invariant-loop-round
 invariant-loop-round l = record {
-  same : IsSameSeat l.fn.seat l.seat;
+  seat : IsSeatOf (board_of l.fn.pool) l.seat;
   nothing_held : HoldsNothing (held l.seat);
   counted : l.moved ≤ l.round;
 }
@@ -335,13 +336,14 @@ mkdir "$bench/proofs/post_and_claim_rounds"
 cat > "$bench/proofs/post_and_claim_rounds/Invariants.antt" <<'ANTT'
 use Rattle.std.proofs.Common.{◌≤◌}
 use Rattle.packet_board.specs.Hands.{HoldsNothing}
-use Rattle.packet_board.specs.Seats.{view, held, IsSameSeat}
+use Rattle.packet_board.specs.Seats.{view, held, IsSeatOf}
+use Rattle.packet_pool.specs.Packets.{board_of}
 use Rattle.pool_bench.specs.Moves.{PostsBelow}
 use Rattle.pool_bench.proofs.post_and_claim_rounds.Given as goal
 
 abbrev pub invariant-loop-order : goal.invariant-loop-order
 invariant-loop-order l = record {
-  same : IsSameSeat l.fn.seat l.seat;
+  seat : IsSeatOf (board_of l.fn.pool) l.seat;
   nothing_held : HoldsNothing (held l.seat);
   below : PostsBelow l.order (view l.seat);
   counted : l.moved ≤ l.order;

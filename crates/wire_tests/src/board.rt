@@ -39,12 +39,12 @@ fn board_of_two(
     Ok((board, one, two))
 }
 
-const EMPTY: Word = Word {
+pub(crate) const EMPTY: Word = Word {
     tag: 0,
     buffer: None,
 };
 
-const fn word(tag: u64, buffer: u16) -> Word
+pub(crate) const fn word(tag: u64, buffer: u16) -> Word
     ensures { result ≡ record { tag = tag; buffer = Some buffer } }
 {
     Word {

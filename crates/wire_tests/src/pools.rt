@@ -6,6 +6,7 @@ ghost use Rattle.packet_pool.specs.Cells.{last_order};
 ghost use Rattle.packet_pool.specs.Packets.{board_of, layout_in, number_of};
 ghost use Rattle.wire_tests.specs.Moves.{plain_layout, HoldsPacket, PostsBelow};
 
+use crate::board::{EMPTY, word};
 use crate::moves::{
     claim_and_post, claim_rounds, claims, claims_that, give, post, post_rounds, posts, take,
     take_and_post, takes,
@@ -20,7 +21,7 @@ use std::thread::join_mut;
 use udp_frames::{FrameFault, write_headers};
 
 /// A new pool of so many small buffers and ready cells, and its first seat.
-pub(crate) fn pool_of_one(
+fn pool_of_one(
     alloc: Global,
     small: usize,
     ready: usize,
@@ -276,10 +277,7 @@ fn two_threads_move_packets_and_all_come_home(rt: HostRuntime) -> Result<(), Fai
     // What still waits is claimed, and the board closes with each buffer in its free cell.
     let (left, closed) = claim_and_close(pool, one, two).ok_or("no seat is out")?;
     assert!(rt; (posted.checked_sub(claimed), closed.buffers.len()) == (Some(left), 4));
-    let at_home = [Some(0), Some(1), Some(2), Some(3), None, None].map(|buffer| Word {
-        tag: 0,
-        buffer,
-    });
-    assert!(rt; closed.words.as_slice() == at_home.as_slice());
+    let words = [word(0, 0), word(0, 1), word(0, 2), word(0, 3), EMPTY, EMPTY];
+    assert!(rt; closed.words.as_slice() == words.as_slice());
     Ok(())
 }
