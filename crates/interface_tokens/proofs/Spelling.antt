@@ -1,47 +1,28 @@
--- Reserved words are found by their spelling.
-use Rattle.std.proofs.Common.{◌≡◌, ◌≢◌, ℕ, Bool, true, false, List, [], ◌∷◌, Option, Some, None, MatchOption, refl, ap, sym, ◌∙◌}
-use Rattle.std.specs.Prelude.{find}
+-- A reserved word is found among those that begin as it does.
+use Rattle.std.proofs.Common.{◌≡◌, ◌==◌, ◌<◌, ℕ, Bool, true, List, [], ◌∷◌, None, length, get_or, refl, ap, arith}
+use Rattle.std.specs.Prelude.{find, filter}
+use Rattle.std.proofs.lemmas.Grind.{common_steps}
 use Rattle.std.proofs.lemmas.Slice.Eq.{slice_eq-Decides}
-use Rattle.std.proofs.lemmas.Bool.Decides.{Decides-eqb}
+use Rattle.std.proofs.lemmas.Bool.Decides.{Decides-eqb, nat_tests}
 use Rattle.interface_tokens.specs.Names.{is_same}
-use Rattle.interface_tokens.specs.Tokens.{spelling_of, word_of, words}
+use Rattle.interface_tokens.specs.Tokens.{first_spelled, spelling_of, word_of, words, words_from}
 use Rattle.interface_tokens.specs.declared.token.Word.{Word}
-use Rattle.interface_tokens.specs.declared.token.Word.TheVariants as word
 
-differ : (xs ys : List ℕ) → xs ≢ ys → is_same xs ys ≡ false
-differ xs ys h = elim (is_same xs ys) as (λ b. is_same xs ys ≡ b → b ≡ false)
-    [ true ↦ λ e. absurd (h ((slice_eq-Decides Decides-eqb xs ys (is_same xs ys) refl).0 e)) | false ↦ λ e. refl ] refl
+find-filter : (p q : Word → Bool) → ((w : Word) → p w ≡ true → q w ≡ true) → (ws : List Word) → find p (filter q ws) ≡ find p ws
+find-filter p q h [] = refl
+find-filter p q h (w ∷ ws) = grind (arith, common_steps, h w, find-filter p q h ws)
 
-find_none : (p : Word → Bool) (ws : List Word) → ((w : Word) → p w ≡ false) → find p ws ≡ None
-find_none p [] h = refl
-find_none p (w ∷ ws) h = rw (h w) (find_none p ws h)
+same_first : (bytes : List ℕ) (w : Word) → is_same bytes (spelling_of w) ≡ true → (get_or (spelling_of w) 0 0 == get_or bytes 0 0) ≡ true
+same_first bytes w h =
+    let same = (slice_eq-Decides Decides-eqb bytes (spelling_of w) _ refl).0 h in
+    grind (arith, nat_tests, ap (λ (xs : List ℕ). get_or xs 0 0) same)
 
-pub no_word : (bytes : List ℕ) → ((w : Word) → bytes ≢ spelling_of w) → word_of bytes ≡ None
+pub among_those_from_its_first : (bytes : List ℕ) → first_spelled bytes (words_from (get_or bytes 0 0)) ≡ word_of bytes
 unfolding word_of
-no_word bytes h = find_none (λ w. is_same bytes (spelling_of w)) words (λ w. differ bytes (spelling_of w) (h w))
+among_those_from_its_first bytes =
+    find-filter (λ w. is_same bytes (spelling_of w)) (λ w. get_or (spelling_of w) 0 0 == get_or bytes 0 0) (same_first bytes) words
 
-pub that_word : (w : Word) → word_of (spelling_of w) ≡ Some w
+pub not_empty : (bytes : List ℕ) → length bytes < 1 → None ≡ word_of bytes
 unfolding word_of
-that_word word.Interface = refl
-that_word word.End = refl
-that_word word.Type = refl
-that_word word.Exception = refl
-that_word word.Procedure = refl
-that_word word.Var = refl
-that_word word.In = refl
-that_word word.Out = refl
-that_word word.Raises = refl
-that_word word.Boolean = refl
-that_word word.Byte = refl
-that_word word.Char = refl
-that_word word.Cardinal = refl
-that_word word.Integer = refl
-that_word word.Longcard = refl
-that_word word.Array = refl
-that_word word.Of = refl
-that_word word.Upto = refl
-that_word word.Record = refl
-
-pub spelled_word : (bytes : List ℕ) (found : Option Word) → MatchOption found ((w : Word) → bytes ≢ spelling_of w) (λ w. bytes ≡ spelling_of w) → found ≡ word_of bytes
-spelled_word bytes None h = sym (no_word bytes h)
-spelled_word bytes (Some w) h = sym (ap word_of h ∙ that_word w)
+not_empty [] h = refl
+not_empty (x ∷ xs) h = absurd (omega arith)

@@ -1,5 +1,5 @@
 -- The tokens of a text. Bytes are read from the front, each by one row of the table below; a token is as long as it can be.
-use Rattle.std.specs.Prelude.{ℕ, ◌+◌, ◌*◌, ◌-◌, ◌==◌, ◌||◌, Bool, min, List, [], ◌∷◌, ◌++◌, find, Option, Some, None, codes, if◌then◌else◌}
+use Rattle.std.specs.Prelude.{ℕ, ◌+◌, ◌*◌, ◌-◌, ◌==◌, ◌||◌, Bool, min, List, [], ◌∷◌, ◌++◌, get_or, filter, find, Option, Some, None, codes, if◌then◌else◌}
 use Rattle.std.specs.Char.{is_ascii_alphabetic, is_ascii_alphanumeric, is_ascii_digit}
 use Rattle.interface_tokens.specs.Names.{is_name, is_same}
 use Rattle.interface_tokens.specs.declared.place.Place.{Place}
@@ -41,9 +41,17 @@ abbrev pub words : List Word
 words = word.Interface ∷ word.End ∷ word.Type ∷ word.Exception ∷ word.Procedure ∷ word.Var ∷ word.In ∷ word.Out ∷ word.Raises
     ∷ word.Boolean ∷ word.Byte ∷ word.Char ∷ word.Cardinal ∷ word.Integer ∷ word.Longcard ∷ word.Array ∷ word.Of ∷ word.Upto ∷ word.Record ∷ []
 
+-- the reserved words that begin with a byte
+abbrev pub words_from : ℕ → List Word
+words_from first = filter (λ w. get_or (spelling_of w) 0 0 == first) words
+
+-- the first of some words that some bytes spell
+abbrev pub first_spelled : List ℕ → List Word → Option Word
+first_spelled bytes = find (λ w. is_same bytes (spelling_of w))
+
 -- the word that some bytes are
 unfoldable pub word_of : List ℕ → Option Word
-word_of bytes = find (λ w. is_same bytes (spelling_of w)) words
+word_of bytes = first_spelled bytes words
 
 abbrev pub code_of : Sign → ℕ
 code_of sign.Semicolon = 59

@@ -73,10 +73,10 @@ impl Ident {
         ensures found { IfSome result (λ n. (n ≡ bytes.now) × IsTrue (is_name bytes.now)) }
         ensures none { IfNone result (is_name bytes.now ≡ false) }
     {
+        let mut name = [0; MAX_NAME_LEN];
         if !is_name(bytes) {
             return None;
         }
-        let mut name = [0; MAX_NAME_LEN];
         name[..bytes.len()].copy_from_slice(bytes);
         Some(Ident {
             bytes: name,

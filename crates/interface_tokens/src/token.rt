@@ -1,8 +1,8 @@
 //! Tokens.
 
-ghost use Rattle.std.specs.Prelude.{◌≡◌, ◌≢◌, MatchOption};
-ghost use Rattle.interface_tokens.specs.Tokens.{sign_of, spelling_of, word_of};
-ghost use Rattle.interface_tokens.specs.declared.token.Word.{Word};
+ghost use Rattle.std.specs.Prelude.{◌≡◌, ◌∷◌, []};
+ghost use Rattle.interface_tokens.specs.Names.{is_same};
+ghost use Rattle.interface_tokens.specs.Tokens.{first_spelled, sign_of, spelling_of, word_of, words_from};
 
 use crate::ident::Ident;
 use crate::place::Place;
@@ -68,34 +68,83 @@ pub struct Spot {
 pub(crate) fn word_of(bytes: &[u8]) -> Option<Word>
     ensures { result ≡ word_of bytes.now }
 {
-    spelled(bytes)
+    match bytes {
+        [first, ..] => word_from(*first, bytes),
+        [] => None,
+    }
 }
 
-/// The word with this spelling.
-fn spelled(bytes: &[u8]) -> Option<Word>
-    ensures { MatchOption result ((w : Word) → bytes.now ≢ spelling_of w) (λ w. bytes.now ≡ spelling_of w) }
+/// The word that some bytes are, among those that begin with a byte.
+fn word_from(first: u8, bytes: &[u8]) -> Option<Word>
+    ensures { result ≡ first_spelled bytes.now (words_from first) }
 {
-    match bytes {
-        b"INTERFACE" => Some(Word::Interface),
-        b"END" => Some(Word::End),
-        b"TYPE" => Some(Word::Type),
-        b"EXCEPTION" => Some(Word::Exception),
-        b"PROCEDURE" => Some(Word::Procedure),
-        b"VAR" => Some(Word::Var),
-        b"IN" => Some(Word::In),
-        b"OUT" => Some(Word::Out),
-        b"RAISES" => Some(Word::Raises),
-        b"BOOLEAN" => Some(Word::Boolean),
-        b"BYTE" => Some(Word::Byte),
-        b"CHAR" => Some(Word::Char),
-        b"CARDINAL" => Some(Word::Cardinal),
-        b"INTEGER" => Some(Word::Integer),
-        b"LONGCARD" => Some(Word::Longcard),
-        b"ARRAY" => Some(Word::Array),
-        b"OF" => Some(Word::Of),
-        b"UPTO" => Some(Word::Upto),
-        b"RECORD" => Some(Word::Record),
+    match first {
+        b'A' => only(Word::Array, bytes),
+        b'B' => either(Word::Boolean, Word::Byte, bytes),
+        b'C' => either(Word::Char, Word::Cardinal, bytes),
+        b'E' => either(Word::End, Word::Exception, bytes),
+        b'I' if bytes.len() == 2 => only(Word::In, bytes),
+        b'I' => either(Word::Interface, Word::Integer, bytes),
+        b'L' => only(Word::Longcard, bytes),
+        b'O' => either(Word::Out, Word::Of, bytes),
+        b'P' => only(Word::Procedure, bytes),
+        b'R' => either(Word::Raises, Word::Record, bytes),
+        b'T' => only(Word::Type, bytes),
+        b'U' => only(Word::Upto, bytes),
+        b'V' => only(Word::Var, bytes),
         _ => None,
+    }
+}
+
+/// The one of these words that some bytes spell.
+fn either(word: Word, other: Word, bytes: &[u8]) -> Option<Word>
+    ensures { result ≡ first_spelled bytes.now (word ∷ other ∷ []) }
+{
+    if spells(bytes, word) {
+        Some(word)
+    } else {
+        only(other, bytes)
+    }
+}
+
+/// This word, if some bytes spell it.
+fn only(word: Word, bytes: &[u8]) -> Option<Word>
+    ensures { result ≡ first_spelled bytes.now (word ∷ []) }
+{
+    spells(bytes, word).then_some(word)
+}
+
+/// Whether some bytes are a word's letters. Their number comes first: few names have it.
+fn spells(bytes: &[u8], word: Word) -> bool
+    ensures { result ≡ is_same bytes.now (spelling_of word) }
+{
+    let letters = spelling(word);
+    bytes.len() == letters.len() && bytes.iter().eq(letters)
+}
+
+fn spelling(word: Word) -> &'static [u8]
+    ensures { result.now ≡ spelling_of word }
+{
+    match word {
+        Word::Interface => b"INTERFACE",
+        Word::End => b"END",
+        Word::Type => b"TYPE",
+        Word::Exception => b"EXCEPTION",
+        Word::Procedure => b"PROCEDURE",
+        Word::Var => b"VAR",
+        Word::In => b"IN",
+        Word::Out => b"OUT",
+        Word::Raises => b"RAISES",
+        Word::Boolean => b"BOOLEAN",
+        Word::Byte => b"BYTE",
+        Word::Char => b"CHAR",
+        Word::Cardinal => b"CARDINAL",
+        Word::Integer => b"INTEGER",
+        Word::Longcard => b"LONGCARD",
+        Word::Array => b"ARRAY",
+        Word::Of => b"OF",
+        Word::Upto => b"UPTO",
+        Word::Record => b"RECORD",
     }
 }
 
