@@ -1,12 +1,14 @@
 pub mod Ahead
 pub mod Asking
 pub mod Ending
+pub mod Firsts
 pub mod Forms
 pub mod Forward
 pub mod Keeping
 pub mod Levels
 pub mod Limited
 pub mod Looking
+pub mod Matching
 pub mod Residue
 pub mod Rows
 pub mod Settling
