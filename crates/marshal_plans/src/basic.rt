@@ -81,11 +81,10 @@ fn plain_code(value: i128, limit: u128) -> Option<u64>
     ensures fits { IfSome result (λ code. code < limit) }
 {
     let code = u128::try_from(value).ok()?;
-    if code < limit {
-        Some(code as u64)
-    } else {
-        None
+    if code >= limit {
+        return None;
     }
+    Some(code as u64)
 }
 
 fn plain_value(code: u64, limit: u64) -> Option<i128>

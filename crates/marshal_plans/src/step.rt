@@ -45,9 +45,8 @@ fn parted(plan: &[Instruction], len: usize) -> Option<(&[Instruction], &[Instruc
     ensures { MatchOption result (length plan.now ≤ len)
         (λ r. (len < length plan.now) × (r.0.now ≡ take len plan.now) × (r.1.now ≡ drop (len + 1) plan.now)) }
 {
-    if len < plan.len() {
-        Some((&plan[..len], &plan[len + 1..]))
-    } else {
-        None
+    if len >= plan.len() {
+        return None;
     }
+    Some((&plan[..len], &plan[len + 1..]))
 }

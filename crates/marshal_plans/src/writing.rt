@@ -19,9 +19,10 @@ fn put_code(into: &mut [u8], at: usize, code: u64, len: usize) -> usize
     ensures { Wrote into.old into.new at result (big_bytes len code) }
 {
     let next = at.saturating_add(len);
-    if next <= into.len() {
-        BigEndian::write_uint(&mut into[at..], code, len);
+    if next > into.len() {
+        return next;
     }
+    BigEndian::write_uint(&mut into[at..], code, len);
     next
 }
 
