@@ -100,11 +100,13 @@ impl Reader {
     fn check_end(&self, ending: Ending, place: Place) -> Result<(), Stop>
         ensures { Gives (λ _. rules.interface_of (reading_of self.now)) result (rules.finish (reading_of self.now) ending place) }
     {
-        match (ending, self.expect) {
-            (Ending::Character, _) => Err(self.types.stop(place, Cause::Character)),
-            (Ending::OpenComment, _) => Err(self.types.stop(place, Cause::OpenComment)),
-            (Ending::Text, Expect::Top(AtTop::Nothing)) => Ok(()),
-            (Ending::Text, _) => Err(self.types.stop(place, Cause::Expected)),
+        match ending {
+            Ending::Character => Err(self.types.stop(place, Cause::Character)),
+            Ending::OpenComment => Err(self.types.stop(place, Cause::OpenComment)),
+            Ending::Text => match self.expect {
+                Expect::Top(AtTop::Nothing) => Ok(()),
+                _ => Err(self.types.stop(place, Cause::Expected)),
+            },
         }
     }
 

@@ -140,10 +140,7 @@ impl Types {
         match end {
             TypeEnd::Basic(basic) => self.basic(alloc, basic, place),
             TypeEnd::Named(name) => self.named(alloc, names.type_of(&name), place),
-            TypeEnd::Values => {
-                let settled = self.end_values(alloc)?;
-                Ok(settled)
-            }
+            TypeEnd::Values => Ok(self.end_values(alloc)?),
             TypeEnd::Limit(number) => self.set_limit(alloc, number, place),
             TypeEnd::Record => self.end_record(alloc, place),
         }
@@ -213,8 +210,7 @@ impl Types {
         ensures { IfOk result (λ s. (typing_of self.new, settling_of s) ≡ rules.end_values (typing_of self.old)) }
     {
         let tree = Rc::new(alloc, Tree::Choice(self.values.len()))?;
-        let settled = self.settle(alloc, tree)?;
-        Ok(settled)
+        self.settle(alloc, tree)
     }
 
     #[tactic(auto, unfolding(crate::specs::TypeRules::set_length))]
@@ -365,7 +361,8 @@ fn push_shared(parts: &mut Vec<Rc<Tree>>, tree: &Rc<Tree>, count: u32) -> Result
     ensures { OnOk result (map part_kind parts.new.items ≡ map part_kind parts.old.items ++ replicate count (part_kind tree.now)) }
 {
     'copies: for _ in 0..count {
-        parts.push(tree.clone()?)?;
+        let shared = tree.clone()?;
+        parts.push(shared)?;
     }
     Ok(())
 }
