@@ -12,7 +12,7 @@ const FOUR_BYTES: i128 = 1 << 32;
 const MAX_VALUES: u32 = 1 << 16;
 
 /// A type whose values are one number each.
-#[derive(Clone, Copy, PartialEq, Eq, Debug)]
+#[derive(Clone, Copy, PartialEq, Eq)]
 pub enum Basic {
     /// 0 or 1, in one byte.
     Bool,

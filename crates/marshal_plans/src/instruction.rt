@@ -3,7 +3,7 @@
 use crate::basic::Basic;
 
 /// How many elements an array has.
-#[derive(Clone, Copy, PartialEq, Eq, Debug)]
+#[derive(Clone, Copy, PartialEq, Eq)]
 pub enum Extent {
     /// So many. Their number isn't written.
     Exactly(u32),

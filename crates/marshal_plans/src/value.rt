@@ -3,7 +3,7 @@ ghost use Rattle.std.specs.Prelude.{◌≡◌};
 
 /// A value of some type. A BOOLEAN is 0 or 1, an enumeration its ordinal, a BYTE or CHAR its code.
 #[cycle(value)]
-#[derive(Debug, Drop)]
+#[derive(Drop)]
 pub enum Value {
     /// A number.
     Number(i128),
@@ -14,7 +14,7 @@ pub enum Value {
 /// A list of values. Contracts see it as `data_in`. Numbers that are bytes may stand at its front as bytes, so that an array of bytes is
 /// copied and not taken apart; such a list equals that of the same numbers as values. No call of it takes memory.
 #[cycle(value)]
-#[derive(Debug, Drop)]
+#[derive(Drop)]
 pub struct Values {
     bytes: Vec<u8>,
     others: Vec<Value>,
