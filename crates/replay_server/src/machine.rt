@@ -148,8 +148,16 @@ impl ServerMachine {
         if second <= self.read {
             return Ok(false);
         }
-        *self = ServerMachine::boot(alloc, self.small, self.long, second)?;
+        self.boot_anew(alloc, second)?;
         Ok(true)
+    }
+
+    /// Forgets all but the numbers of its buffers, and boots in a second. `Err` only where memory is short.
+    fn boot_anew(&mut self, alloc: Global, second: u32) -> Result<(), AllocError>
+        ensures { IfOk result (λ _. self.new ≡ model.booted_server self.old.small self.old.long second) }
+    {
+        *self = ServerMachine::boot(alloc, self.small, self.long, second)?;
+        Ok(())
     }
 
     /// An idle worker takes the oldest ready packet.

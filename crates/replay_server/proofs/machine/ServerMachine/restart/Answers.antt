@@ -2,7 +2,7 @@ use Rattle.std.proofs.Common.{ℕ, ◌≤◌, ◌<◌, [], ◌∷◌, ap, sym, s
 use Rattle.std.proofs.lemmas.Bool.{cond-true, cond-false, le-ltb, lt-ltb}
 use Rattle.replay_model.specs.declared.limits.TheConstants.{SERVER_MACHINE}
 use Rattle.replay_model.specs.Record.{Restarts}
-use Rattle.replay_model.specs.World.{World, Server, booted_server}
+use Rattle.replay_model.specs.World.{World, Server}
 use Rattle.replay_model.specs.Step.{Outcome}
 use Rattle.replay_server.proofs.machine.ServerMachine.restart.Goals as goal
 
@@ -17,4 +17,4 @@ returns c w =
     let w' : World = record w { second = c.args.second; server = c.args.self.now } in
     let outcome : Server → Outcome = λ s. record { world = record w' { server = s }; acts = Restarts SERVER_MACHINE c.args.second ∷ [] } in
     cond-true _ _ _ (lt-ltb c.args.self.now.read c.args.second late)
-    ∙ ap outcome (sym (c.branch.view_is ∙ (c.in_ok-self-inside.ensures ∙ ap (λ (s : Server). booted_server s.small s.long c.args.second) c.self.view_is)))
+    ∙ ap outcome (sym c.in_ok-boot_anew.ensures)
