@@ -1,11 +1,7 @@
 -- What is told around a call: what a source has left and a sink has written, where they tell it, and their counts of faults.
-use Rattle.std.specs.Prelude.{◌≡◌, ℕ, List, [], ◌++◌, take, Option, None, IfSome, ◌⊎◌}
+use Rattle.std.specs.Prelude.{◌≡◌, ℕ, List, [], ◌++◌, take, Option, IfSome, ◌⊎◌}
 use Rattle.ff_io.specs.Count.{Rose}
 use Rattle.ff_io.specs.Told.{Appended}
-
--- no bytes are told
-abbrev pub untold : Option (List ℕ)
-untold = None
 
 -- of a source
 pub record Input : Type 0 where

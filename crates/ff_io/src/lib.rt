@@ -1,5 +1,5 @@
-//! The outside of the program, as traits with a written meaning: where bytes come from and go to, and the
-//! forms of each in memory.
+//! The outside of the program, as traits with a written meaning: where bytes come from and go to, the forms of
+//! each in memory, and those over the standard library's readers and writers.
 #![tactic(auto)]
 
 mod calls;
@@ -12,6 +12,7 @@ mod short;
 mod sink;
 mod source;
 mod station;
+mod streams;
 mod write_failed;
 mod writing;
 
@@ -24,5 +25,6 @@ pub use short::Short;
 pub use sink::Sink;
 pub use source::Source;
 pub use station::{FIRST_MACHINE, LAST_MACHINE, Station};
+pub use streams::{StreamSink, StreamSource};
 pub use write_failed::WriteFailed;
 pub use writing::write_all;

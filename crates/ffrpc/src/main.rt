@@ -2,13 +2,12 @@
 #![tactic(auto)]
 
 mod command;
-mod streams;
 
 use command::run_words;
+use ff_io::{StreamSink, StreamSource};
 use std::process::ExitCode;
 use std::rt::Env;
 use std::{env, io};
-use streams::{StreamSink, StreamSource};
 
 fn main(rt: HostRuntime) -> ExitCode {
     let mut source = StreamSource::new(rt.stdin());
@@ -41,8 +40,6 @@ mod restart_tests;
 mod rows;
 #[cfg(test)]
 mod storm_tests;
-#[cfg(test)]
-mod stream_tests;
 #[cfg(test)]
 mod stubs_tests;
 #[cfg(test)]

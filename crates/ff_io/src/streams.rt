@@ -1,13 +1,11 @@
-//! The program's input and output as a source and a sink. They tell nothing of content; what std says of the bytes
-//! that its readers and writers have, where these are known, is handed on.
-
+// Readers and writers as sources and sinks. They tell nothing of content; what std says of the bytes that its readers
+// and writers have, where these are known, is handed on.
 ghost use Rattle.std.specs.Prelude.{◌≡◌, ◌↔◌, ◌≤◌, ◌<◌, [], length, take, IfOk, IfSome, OnOk, OnErr};
 ghost use Rattle.std.specs.Io.KnownBytes.{ReadConsumes, WriteAppends};
 ghost use Rattle.ff_io.specs.Count.{Rose};
-ghost use Rattle.ff_io.specs.Told.{Appended, Gave};
-ghost use Rattle.commands.specs.Outside.{untold};
+ghost use Rattle.ff_io.specs.Told.{Appended, Gave, untold};
 
-use ff_io::{ReadFailed, Sink, Source, WriteFailed};
+use crate::{ReadFailed, Sink, Source, WriteFailed};
 use std::io::{Read, Write};
 
 /// A reader as a source.

@@ -1,7 +1,6 @@
 //! The adapters over readers and writers, each with a call that fails.
 
-use crate::streams::{StreamSink, StreamSource};
-use ff_io::{ReadFailed, Sink, Source, WriteFailed};
+use ff_io::{ReadFailed, Sink, Source, StreamSink, StreamSource, WriteFailed};
 use std::io;
 use std::io::{ErrorKind, Read, Write};
 use std::test::Fail;
