@@ -1,7 +1,7 @@
 //! What a server keeps for an activity, as a worker sees it, and what a packet is judged to be by it.
 
 /// The state of an activity's entry.
-#[derive(Clone, Copy, PartialEq, Eq, Debug)]
+#[derive(Clone, Copy, PartialEq, Eq)]
 pub enum Phase {
     /// No call has come.
     Empty,
@@ -18,7 +18,7 @@ pub enum Phase {
 }
 
 /// What a packet is by its activity's entry: what is to be done with it, or why it is dropped.
-#[derive(Clone, Copy, PartialEq, Eq, Debug)]
+#[derive(Clone, Copy, PartialEq, Eq)]
 pub enum Judged {
     /// A later call of the activity has come.
     Older,

@@ -9,7 +9,7 @@ use crate::entry::{Judged, Phase};
 use rpc_header::{CallNumber, Header, Kind};
 
 /// What a worker sees of an entry: its state, and the number of its call, which is 0 where no call has come.
-#[derive(Clone, Copy, PartialEq, Eq, Debug)]
+#[derive(Clone, Copy, PartialEq, Eq)]
 pub struct Seen {
     pub phase: Phase,
     pub number: CallNumber,

@@ -1,7 +1,7 @@
 //! What a worker does in a step.
 
 /// Why a worker drops its packet.
-#[derive(Clone, Copy, PartialEq, Eq, Debug)]
+#[derive(Clone, Copy, PartialEq, Eq)]
 pub enum Unfit {
     /// A later call of the activity has come.
     Older,
@@ -24,7 +24,7 @@ pub enum Unfit {
 }
 
 /// What a worker does in a step, where it has a packet.
-#[derive(Clone, Copy, PartialEq, Eq, Debug)]
+#[derive(Clone, Copy, PartialEq, Eq)]
 pub enum Did {
     /// It takes the oldest ready packet.
     Claims,

@@ -3,7 +3,7 @@
 use replay_model::StormOptions;
 
 /// A command of the program, with its options.
-#[derive(Clone, Copy, PartialEq, Eq, Debug)]
+#[derive(Clone, Copy, PartialEq, Eq)]
 pub enum Command {
     /// Play a script.
     Replay,

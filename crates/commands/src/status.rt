@@ -9,7 +9,7 @@ use std::io;
 use std::process::ExitCode;
 
 /// How a command ends. Each status has its number, and all but two a line that is written last.
-#[derive(Clone, Copy, PartialEq, Eq, Debug)]
+#[derive(Clone, Copy, PartialEq, Eq)]
 pub enum Status {
     /// All input was read, and all output was written.
     Ok,

@@ -33,7 +33,7 @@ pub enum Called {
 }
 
 /// A process that has passed over call numbers.
-#[derive(Clone, Copy, PartialEq, Eq, Debug)]
+#[derive(Clone, Copy, PartialEq, Eq)]
 pub struct Skipped {
     pub activity: Activity,
     /// The number of its next call.

@@ -6,7 +6,7 @@ ghost use Rattle.replay_model.specs.Process as process;
 use crate::told::{Cause, Said};
 
 /// What a process had to do before a step.
-#[derive(Clone, Copy, PartialEq, Eq, Debug)]
+#[derive(Clone, Copy, PartialEq, Eq)]
 pub(crate) enum Task {
     Call,
     Bind,

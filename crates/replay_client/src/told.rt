@@ -5,7 +5,7 @@ use replay_packets::Outgoing;
 use rpc_header::{CallId, Export};
 
 /// Why a call failed.
-#[derive(Clone, Copy, PartialEq, Eq, Debug)]
+#[derive(Clone, Copy, PartialEq, Eq)]
 pub enum Cause {
     /// No transmission was answered.
     Unanswered,

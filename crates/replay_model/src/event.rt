@@ -18,7 +18,7 @@ pub const MAX_ARG: u16 = 3;
 pub const MAX_RESULT: u16 = 4;
 
 /// What a call asks of the test service.
-#[derive(Clone, Copy, PartialEq, Eq, Debug)]
+#[derive(Clone, Copy, PartialEq, Eq)]
 pub enum CallWord {
     /// Nothing: no arguments and no result.
     Null,
@@ -33,7 +33,7 @@ pub enum CallWord {
 }
 
 /// One line of a script. Machines, processes, workers and packets are numbered as in the script.
-#[derive(Clone, Copy, PartialEq, Eq, Debug)]
+#[derive(Clone, Copy, PartialEq, Eq)]
 pub enum Event {
     /// The world's second becomes this one.
     Second(u32),

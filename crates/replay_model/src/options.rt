@@ -7,7 +7,7 @@ pub const MOST_CALLS: u32 = 20_000;
 pub const ROUNDS_A_CALL: u32 = 24;
 
 /// What a storm is made of: the seed of what it draws, and the most calls that it starts, 1 to `MOST_CALLS`.
-#[derive(Clone, Copy, PartialEq, Eq, Debug)]
+#[derive(Clone, Copy, PartialEq, Eq)]
 pub struct StormOptions {
     pub seed: u64,
     pub calls: u32,

@@ -1,7 +1,7 @@
 //! The counts of a world.
 
 /// How many calls were started so far, how many bodies ran, and how the calls ended. A bind is no call.
-#[derive(Clone, Copy, PartialEq, Eq, Debug)]
+#[derive(Clone, Copy, PartialEq, Eq)]
 pub struct Counts {
     /// The calls whose start was accepted.
     pub started: u64,

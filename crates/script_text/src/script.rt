@@ -15,7 +15,7 @@ use replay_model::{Event, TextFault};
 use std::alloc::Global;
 
 /// What a script asks for.
-#[derive(Debug, Drop)]
+#[derive(Drop)]
 pub struct Script {
     /// The server's number of small buffers.
     pub small: usize,

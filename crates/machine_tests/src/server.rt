@@ -1,0 +1,6 @@
+//! Tests of the server machine.
+
+pub mod beside;
+pub mod lives;
+pub mod rows;
+pub mod trial;

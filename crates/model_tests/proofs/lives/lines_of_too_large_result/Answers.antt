@@ -1,7 +1,0 @@
-use Rattle.std.proofs.Common.{refl}
-use Rattle.model_tests.proofs.Computing.{computing}
-use Rattle.model_tests.proofs.lives.lines_of_too_large_result.Goals as goal
-
-pub returns : goal.returns
-unfolding computing
-returns c = refl

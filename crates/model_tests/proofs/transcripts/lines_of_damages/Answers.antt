@@ -1,7 +1,0 @@
-use Rattle.std.proofs.Common.{refl}
-use Rattle.model_tests.proofs.Computing.{computing}
-use Rattle.model_tests.proofs.transcripts.lines_of_damages.Goals as goal
-
-pub returns : goal.returns
-unfolding computing
-returns c = refl
