@@ -4,7 +4,7 @@ ghost use Rattle.std.specs.Prelude.{◌≡◌, ◌≤◌, take, Some};
 ghost use Rattle.std.specs.Fmt.{decimal};
 ghost use Rattle.replay_model.specs.Lines.{bytes_text, exception_number, hex, hex_byte, reply_text};
 
-use crate::short::Short;
+use crate::numbers::Short;
 use lane_checksum::{Digest, HEAD_LEN};
 use std::fmt::{self, Display, Formatter};
 

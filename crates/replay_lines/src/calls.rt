@@ -9,7 +9,7 @@ ghost use Rattle.replay_model.specs.Lines.{call_text, lines_of_act, return_line}
 ghost use Rattle.replay_lines.specs.Page.{written};
 
 use crate::bytes::{BytesText, ExceptionText};
-use crate::short::{Decimal, Short};
+use crate::numbers::{Decimal, Short};
 use crate::text::{Page, Print};
 use call_rules::TRIES;
 use lane_checksum::Digest;

@@ -6,7 +6,7 @@ ghost use Rattle.replay_model.specs.Lines.{lines_of_act, discard_text, frame_fau
 ghost use Rattle.replay_lines.specs.Page.{written};
 
 use crate::bytes::Hex;
-use crate::short::Decimal;
+use crate::numbers::Decimal;
 use crate::text::{Page, Print};
 use replay_model::Discard;
 use rpc_header::HeaderFault;

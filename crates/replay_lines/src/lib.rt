@@ -10,9 +10,9 @@ pub mod calls;
 mod counts;
 pub mod deliveries;
 pub mod lives;
+mod numbers;
 mod packets;
 mod runs;
-mod short;
 mod text;
 pub mod work;
 

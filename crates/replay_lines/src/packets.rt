@@ -5,7 +5,7 @@ ghost use Rattle.call_rules.specs.Packet.{fields_of};
 ghost use Rattle.replay_model.specs.Lines.{flags_text, header_text, kind_text, packet_line};
 ghost use Rattle.replay_lines.specs.Page.{written};
 
-use crate::short::{Decimal, Short};
+use crate::numbers::{Decimal, Short};
 use crate::text::{Page, Print};
 use rpc_header::{Header, Kind};
 use std::alloc::AllocError;

@@ -5,7 +5,7 @@ ghost use Rattle.replay_model.specs.Record as act;
 ghost use Rattle.replay_model.specs.Lines.{did_text, unfit_text, lines_of_act};
 ghost use Rattle.replay_lines.specs.Page.{written};
 
-use crate::short::{Decimal, Short};
+use crate::numbers::{Decimal, Short};
 use crate::text::{Page, Print};
 use call_rules::{Did, Unfit};
 use std::alloc::AllocError;

@@ -2,7 +2,7 @@
 use Rattle.std.proofs.Common.{◌≡◌, ℕ, ◌+◌, ◌<◌, [], ◌∷◌, ap, arith, sym, ◌∙◌}
 use Rattle.std.proofs.lemmas.Fmt.{decimal_digit}
 use Rattle.std.specs.Fmt.{decimal}
-use Rattle.replay_lines.proofs.short.digit.Goals as goal
+use Rattle.replay_lines.proofs.numbers.digit.Goals as goal
 
 one_digit : (number n : ℕ) → n < 10 → number ≡ n → (48 + n) ∷ [] ≡ decimal number
 one_digit number n small is = sym (ap decimal is ∙ decimal_digit n small)
