@@ -1,10 +1,9 @@
 //! Texts, what they declare, and the first fault of each that declares nothing.
-use interface_text::{Shape, parse};
+use interface_text::{Procedure, Shape, parse};
 use std::alloc::{AllocError, Global};
-use std::test::Fail;
 
 /// Texts, each with the line, the column and the number of its first fault, or zeros where it has none.
-const FAULTS: [(&[u8], u32, u32, u8); 34] = [
+static FAULTS: [(&[u8], u32, u32, u8); 34] = [
     (b"INTERFACE A; END A.", 0, 0, 0),
     (b"INTERFACE A; END A. (* more *)\n", 0, 0, 0),
     (b"INTERFACE A;\n@", 2, 1, 1),
@@ -103,8 +102,8 @@ const FAULTS: [(&[u8], u32, u32, u8); 34] = [
 
 #[test]
 fn each_text_has_its_first_fault(rt: HostRuntime) {
-    for (text, line, column, number) in FAULTS {
-        assert!(rt; fault_of(rt.alloc(), text) == (line, column, number));
+    for (text, line, column, number) in FAULTS.iter() {
+        assert!(rt; fault_of(rt.alloc(), text) == (*line, *column, *number));
     }
 }
 
@@ -119,143 +118,297 @@ fn fault_of(alloc: Global, text: &[u8]) -> (u32, u32, u8) {
     }
 }
 
-/// A text with so many names in it, each between two pieces.
-fn with_names(
-    alloc: Global,
-    front: &[u8],
-    before: &[u8],
+/// A text in whose middle a piece stands so many times, and its first fault. Each `#` of the piece is its number
+/// from 0, in five digits.
+struct Long {
+    front: &'static [u8],
+    piece: &'static [u8],
     count: u32,
-    behind: &[u8],
-    back: &[u8],
-) -> Result<Vec<u8>, AllocError> {
-    let mut text = Vec::new(alloc);
-    text.extend_from_slice(front)?;
-    for i in 0..count {
-        text.extend_from_slice(before)?;
-        text.push(b'N')?;
-        for unit in [10_000, 1000, 100, 10, 1] {
-            text.push(b'0' + (i / unit % 10) as u8)?;
-        }
-        text.extend_from_slice(behind)?;
-    }
-    text.extend_from_slice(back)?;
-    Ok(text)
+    back: &'static [u8],
+    fault: (u32, u32, u8),
 }
 
-#[test]
-fn there_may_be_256_exceptions_and_256_procedures(rt: HostRuntime) -> Result<(), Fail> {
-    let alloc = rt.alloc();
-    for (before, behind) in [
-        (b"EXCEPTION ".as_slice(), b";\n".as_slice()),
-        (b"PROCEDURE ", b"();\n"),
-    ] {
-        let text = with_names(alloc, b"INTERFACE A;\n", before, 256, behind, b"END A.")?;
-        assert!(rt; fault_of(alloc, text.as_slice()) == (0, 0, 0));
-        let text = with_names(alloc, b"INTERFACE A;\n", before, 257, behind, b"END A.")?;
-        assert!(rt; fault_of(alloc, text.as_slice()) == (258, 1, 10));
+fn digit(number: u32) -> u8 {
+    match b"0123456789".get((number % 10) as usize) {
+        Some(digit) => *digit,
+        None => b'?',
+    }
+}
+
+fn digits(number: u32) -> [u8; 5] {
+    [
+        digit(number / 10_000),
+        digit(number / 1000),
+        digit(number / 100),
+        digit(number / 10),
+        digit(number),
+    ]
+}
+
+fn push_piece(text: &mut Vec<u8>, piece: &[u8], number: u32) -> Result<(), AllocError> {
+    for byte in piece {
+        if *byte == b'#' {
+            text.extend_from_slice(&digits(number))?;
+        } else {
+            text.push(*byte)?;
+        }
     }
     Ok(())
 }
 
+fn text_of(alloc: Global, long: &Long) -> Result<Vec<u8>, AllocError> {
+    let mut text = Vec::from_slice(alloc, long.front)?;
+    for number in 0..long.count {
+        push_piece(&mut text, long.piece, number)?;
+    }
+    text.extend_from_slice(long.back)?;
+    Ok(text)
+}
+
+/// Whether each of the texts has its first fault.
+fn have_their_faults(alloc: Global, texts: &[Long]) -> bool {
+    for long in texts {
+        let Ok(text) = text_of(alloc, long) else {
+            return false;
+        };
+        if fault_of(alloc, text.as_slice()) != long.fault {
+            return false;
+        }
+    }
+    true
+}
+
+static DECLARED: [Long; 4] = [
+    Long {
+        front: b"INTERFACE A;\n",
+        piece: b"EXCEPTION N#;\n",
+        count: 256,
+        back: b"END A.",
+        fault: (0, 0, 0),
+    },
+    Long {
+        front: b"INTERFACE A;\n",
+        piece: b"EXCEPTION N#;\n",
+        count: 257,
+        back: b"END A.",
+        fault: (258, 1, 10),
+    },
+    Long {
+        front: b"INTERFACE A;\n",
+        piece: b"PROCEDURE N#();\n",
+        count: 256,
+        back: b"END A.",
+        fault: (0, 0, 0),
+    },
+    Long {
+        front: b"INTERFACE A;\n",
+        piece: b"PROCEDURE N#();\n",
+        count: 257,
+        back: b"END A.",
+        fault: (258, 1, 10),
+    },
+];
+
 #[test]
-fn a_type_has_at_most_4096_parts(rt: HostRuntime) -> Result<(), Fail> {
-    let alloc = rt.alloc();
-    let front = b"INTERFACE A;\nTYPE T = RECORD ";
-    let text = with_names(alloc, front, b"", 4094, b", ", b"z: BYTE END; END A.")?;
-    assert!(rt; fault_of(alloc, text.as_slice()) == (0, 0, 0));
-    let text = with_names(alloc, front, b"", 4095, b", ", b"z: BYTE END; END A.")?;
-    assert!(rt; fault_of(alloc, text.as_slice()) == (2, 10, 10));
+fn there_may_be_256_exceptions_and_256_procedures(rt: HostRuntime) {
+    assert!(rt; have_their_faults(rt.alloc(), &DECLARED));
+}
+
+const RECORD: &[u8] = b"INTERFACE A;\nTYPE T = RECORD ";
+
+static FIELDS: [Long; 3] = [
+    Long {
+        front: RECORD,
+        piece: b"N#, ",
+        count: 4094,
+        back: b"z: BYTE END; END A.",
+        fault: (0, 0, 0),
+    },
+    Long {
+        front: RECORD,
+        piece: b"N#, ",
+        count: 4095,
+        back: b"z: BYTE END; END A.",
+        fault: (2, 10, 10),
+    },
     // a later fault that breaks the type off comes behind it
-    let text = with_names(alloc, front, b"", 4095, b", ", b"z: BYTE; @")?;
-    assert!(rt; fault_of(alloc, text.as_slice()) == (2, 10, 10));
-    Ok(())
-}
+    Long {
+        front: RECORD,
+        piece: b"N#, ",
+        count: 4095,
+        back: b"z: BYTE; @",
+        fault: (2, 10, 10),
+    },
+];
 
 #[test]
-fn a_procedure_has_at_most_4096_parts(rt: HostRuntime) -> Result<(), Fail> {
-    let alloc = rt.alloc();
-    let front = b"INTERFACE A; PROCEDURE P(";
-    let text = with_names(alloc, front, b"", 4094, b", ", b"z: BYTE\n): BYTE; END A.")?;
-    assert!(rt; fault_of(alloc, text.as_slice()) == (0, 0, 0));
-    let text = with_names(alloc, front, b"", 4095, b", ", b"z: BYTE\n): BYTE; END A.")?;
-    assert!(rt; fault_of(alloc, text.as_slice()) == (2, 4, 10));
-    let text = with_names(alloc, front, b"", 4096, b", ", b"z:\nBYTE): BYTE; END A.")?;
-    assert!(rt; fault_of(alloc, text.as_slice()) == (2, 1, 10));
+fn a_type_has_at_most_4096_parts(rt: HostRuntime) {
+    assert!(rt; have_their_faults(rt.alloc(), &FIELDS));
+}
+
+const PARAMETERS: &[u8] = b"INTERFACE A; PROCEDURE P(";
+
+static PROCEDURES: [Long; 4] = [
+    Long {
+        front: PARAMETERS,
+        piece: b"N#, ",
+        count: 4094,
+        back: b"z: BYTE\n): BYTE; END A.",
+        fault: (0, 0, 0),
+    },
+    Long {
+        front: PARAMETERS,
+        piece: b"N#, ",
+        count: 4095,
+        back: b"z: BYTE\n): BYTE; END A.",
+        fault: (2, 4, 10),
+    },
+    Long {
+        front: PARAMETERS,
+        piece: b"N#, ",
+        count: 4096,
+        back: b"z:\nBYTE): BYTE; END A.",
+        fault: (2, 1, 10),
+    },
     // no type of that name comes before too many parts at one place
-    let text = with_names(alloc, front, b"", 4096, b", ", b"z:\nX): BYTE; END A.")?;
-    assert!(rt; fault_of(alloc, text.as_slice()) == (2, 1, 7));
-    Ok(())
-}
+    Long {
+        front: PARAMETERS,
+        piece: b"N#, ",
+        count: 4096,
+        back: b"z:\nX): BYTE; END A.",
+        fault: (2, 1, 7),
+    },
+];
 
 #[test]
-fn an_enumeration_has_at_most_65536_values(rt: HostRuntime) -> Result<(), Fail> {
-    let alloc = rt.alloc();
-    let front = b"INTERFACE A; TYPE T = (";
-    let text = with_names(alloc, front, b"", 65_536, b", ", b"\nz); END A.")?;
-    assert!(rt; fault_of(alloc, text.as_slice()) == (2, 1, 10));
+fn a_procedure_has_at_most_4096_parts(rt: HostRuntime) {
+    assert!(rt; have_their_faults(rt.alloc(), &PROCEDURES));
+}
+
+static ENUMERATIONS: [Long; 2] = [
+    Long {
+        front: b"INTERFACE A; TYPE T = (",
+        piece: b"N#, ",
+        count: 65_536,
+        back: b"\nz); END A.",
+        fault: (2, 1, 10),
+    },
     // a second name that is the same comes before one value too many
-    let text = with_names(alloc, front, b"", 65_536, b", ", b"\nN00000); END A.")?;
-    assert!(rt; fault_of(alloc, text.as_slice()) == (2, 1, 6));
-    Ok(())
-}
-
-/// A type of so many arrays in one another.
-fn nested(alloc: Global, front: &[u8], count: u32, back: &[u8]) -> Result<Vec<u8>, AllocError> {
-    let mut text = Vec::new(alloc);
-    text.extend_from_slice(front)?;
-    for _ in 0..count {
-        text.extend_from_slice(b"ARRAY 1 OF ")?;
-    }
-    text.extend_from_slice(back)?;
-    Ok(text)
-}
+    Long {
+        front: b"INTERFACE A; TYPE T = (",
+        piece: b"N#, ",
+        count: 65_536,
+        back: b"\nN00000); END A.",
+        fault: (2, 1, 6),
+    },
+];
 
 #[test]
-fn types_are_nested_16_deep(rt: HostRuntime) -> Result<(), Fail> {
-    let alloc = rt.alloc();
-    let front = b"INTERFACE A;\nTYPE T = ";
-    let text = nested(alloc, front, 15, b"BYTE; TYPE U = T; END A.")?;
-    assert!(rt; fault_of(alloc, text.as_slice()) == (0, 0, 0));
-    let text = nested(alloc, front, 16, b"BYTE; END A.")?;
-    assert!(rt; fault_of(alloc, text.as_slice()) == (2, 10, 9));
-    // no type begins at the seventeenth level
-    let text = nested(alloc, front, 16, b"\n; END A.")?;
-    assert!(rt; fault_of(alloc, text.as_slice()) == (3, 1, 3));
-    // an unknown name counts
-    let text = nested(alloc, front, 16, b"X; END A.")?;
-    assert!(rt; fault_of(alloc, text.as_slice()) == (2, 10, 9));
-    // a named type counts with its depth
-    let text = nested(alloc, front, 15, b"BYTE; TYPE U =\nARRAY 1 OF T; END A.")?;
-    assert!(rt; fault_of(alloc, text.as_slice()) == (3, 1, 9));
-    Ok(())
+fn an_enumeration_has_at_most_65536_values(rt: HostRuntime) {
+    assert!(rt; have_their_faults(rt.alloc(), &ENUMERATIONS));
 }
 
-/// Writes a letter for each type, and a record's fields up to a full stop.
-fn show(shape: &Shape, letters: &mut Vec<u8>) -> Result<(), AllocError> {
+const TYPE: &[u8] = b"INTERFACE A;\nTYPE T = ";
+
+static ARRAYS: [Long; 5] = [
+    Long {
+        front: TYPE,
+        piece: b"ARRAY 1 OF ",
+        count: 15,
+        back: b"BYTE; TYPE U = T; END A.",
+        fault: (0, 0, 0),
+    },
+    Long {
+        front: TYPE,
+        piece: b"ARRAY 1 OF ",
+        count: 16,
+        back: b"BYTE; END A.",
+        fault: (2, 10, 9),
+    },
+    // no type begins at the seventeenth level
+    Long {
+        front: TYPE,
+        piece: b"ARRAY 1 OF ",
+        count: 16,
+        back: b"\n; END A.",
+        fault: (3, 1, 3),
+    },
+    // an unknown name counts
+    Long {
+        front: TYPE,
+        piece: b"ARRAY 1 OF ",
+        count: 16,
+        back: b"X; END A.",
+        fault: (2, 10, 9),
+    },
+    // a named type counts with its depth
+    Long {
+        front: TYPE,
+        piece: b"ARRAY 1 OF ",
+        count: 15,
+        back: b"BYTE; TYPE U =\nARRAY 1 OF T; END A.",
+        fault: (3, 1, 9),
+    },
+];
+
+#[test]
+fn types_are_nested_16_deep(rt: HostRuntime) {
+    assert!(rt; have_their_faults(rt.alloc(), &ARRAYS));
+}
+
+fn letter_of(shape: &Shape) -> u8 {
     match shape {
-        Shape::Bool => letters.push(b'B')?,
-        Shape::Byte => letters.push(b'b')?,
-        Shape::Cardinal => letters.push(b'C')?,
-        Shape::Integer => letters.push(b'I')?,
-        Shape::LongCard => letters.push(b'L')?,
-        Shape::Choice(_) => letters.push(b'E')?,
-        Shape::Array(_, part) => {
-            letters.push(b'A')?;
-            show(part, letters)?;
-        }
-        Shape::Open(_, part) => {
-            letters.push(b'O')?;
-            show(part, letters)?;
-        }
+        Shape::Bool => b'B',
+        Shape::Byte => b'b',
+        Shape::Cardinal => b'C',
+        Shape::Integer => b'I',
+        Shape::LongCard => b'L',
+        Shape::Choice(_) => b'E',
+        Shape::Array(..) => b'A',
+        Shape::Open(..) => b'O',
+        Shape::Fields(_) => b'R',
+    }
+}
+
+/// Writes the letter of a type, and behind it those of the types in it. A record ends with a full stop.
+fn show(shape: &Shape, letters: &mut Vec<u8>) -> Result<(), AllocError> {
+    letters.push(letter_of(shape))?;
+    match shape {
+        Shape::Array(_, part) | Shape::Open(_, part) => show(part, letters)?,
         Shape::Fields(parts) => {
-            letters.push(b'R')?;
             for part in parts {
                 show(part, letters)?;
             }
             letters.push(b'.')?;
         }
+        _ => {}
     }
     Ok(())
+}
+
+fn show_all(shapes: &[Shape], letters: &mut Vec<u8>) -> Result<(), AllocError> {
+    for shape in shapes {
+        show(shape, letters)?;
+    }
+    Ok(())
+}
+
+/// Writes the name of a procedure, its types, the last digit of its line, and how many exceptions it raises.
+fn show_procedure(procedure: &Procedure, letters: &mut Vec<u8>) -> Result<(), AllocError> {
+    letters.extend_from_slice(procedure.name.as_bytes())?;
+    show_all(procedure.arguments.as_slice(), letters)?;
+    letters.push(b'-')?;
+    show_all(procedure.reply.as_slice(), letters)?;
+    let raised = (procedure.raises.len() % 10) as u32;
+    letters.extend_from_slice(&[digit(procedure.line), digit(raised)])
+}
+
+fn shown(alloc: Global, procedures: &[Procedure]) -> Result<Vec<u8>, AllocError> {
+    let mut letters = Vec::new(alloc);
+    for procedure in procedures {
+        show_procedure(procedure, &mut letters)?;
+    }
+    Ok(letters)
 }
 
 const FILES: &[u8] = b"INTERFACE Files;
@@ -271,28 +424,28 @@ PROCEDURE Get(file: INTEGER; VAR at: Stamp;
 END Files.
 ";
 
+/// Whether a text declares an interface of this name, with so many exceptions, and the procedures that are shown so.
+fn declares(
+    alloc: Global,
+    text: &[u8],
+    name: &[u8],
+    exceptions: usize,
+    letters: &[u8],
+) -> Option<bool> {
+    if text.len() >= 1000 {
+        return None;
+    }
+    let interface = parse(alloc, text).ok()?;
+    let procedures = shown(alloc, interface.procedures.as_slice()).ok()?;
+    Some(
+        interface.name.as_bytes() == name
+            && interface.exceptions.len() == exceptions
+            && procedures.as_slice() == letters,
+    )
+}
+
 #[test]
-fn a_text_gives_what_it_declares(rt: HostRuntime) -> Result<(), Fail> {
-    let alloc = rt.alloc();
-    if FILES.len() >= 1000 {
-        return Ok(());
-    }
-    let interface = parse(alloc, FILES)?;
-    assert!(rt; interface.name.as_bytes() == b"Files".as_slice());
-    assert!(rt; interface.exceptions.len() == 2);
-    let mut letters = Vec::new(alloc);
-    for procedure in interface.procedures.as_slice() {
-        letters.extend_from_slice(procedure.name.as_bytes())?;
-        for shape in procedure.arguments.as_slice() {
-            show(shape, &mut letters)?;
-        }
-        letters.push(b'-')?;
-        for shape in procedure.reply.as_slice() {
-            show(shape, &mut letters)?;
-        }
-        letters.push(b'0' + (procedure.line % 10) as u8)?;
-        letters.push(b'0' + (procedure.raises.len() % 10) as u8)?;
-    }
-    assert!(rt; letters.as_slice() == b"OpenObE-RCAb.I71GetIRCAb.-RCAb.ObB92".as_slice());
-    Ok(())
+fn a_text_gives_what_it_declares(rt: HostRuntime) {
+    let letters = b"OpenObE-RCAb.I71GetIRCAb.-RCAb.ObB92";
+    assert!(rt; declares(rt.alloc(), FILES, b"Files", 2, letters) == Some(true));
 }
