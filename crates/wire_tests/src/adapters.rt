@@ -3,7 +3,6 @@
 use ff_io::{ReadFailed, Sink, Source, StreamSink, StreamSource, WriteFailed};
 use std::io;
 use std::io::{ErrorKind, Read, Write};
-use std::test::Fail;
 
 /// A reader or a writer whose second call fails.
 #[derive(Drop)]
@@ -41,6 +40,14 @@ impl<T: Write> Write for FailsSecond<T> {
     }
 }
 
+/// What a read of three bytes answers, how many faults there are then, and what the three bytes are.
+static READS: [(Result<usize, ReadFailed>, u64, &[u8]); 4] = [
+    (Ok(3), 0, b"abc"),
+    (Err(ReadFailed), 1, b"abc"),
+    (Ok(2), 1, b"dec"),
+    (Ok(0), 1, b"dec"),
+];
+
 #[test]
 fn a_reader_is_a_source_that_counts_what_fails(rt: HostRuntime) {
     let mut source = StreamSource::new(FailsSecond {
@@ -48,27 +55,28 @@ fn a_reader_is_a_source_that_counts_what_fails(rt: HostRuntime) {
         calls: 0,
     });
     let mut into = [0u8; 3];
-    assert!(rt; source.read(&mut into) == Ok(3));
-    assert!(rt; into.as_slice() == b"abc".as_slice());
-    assert!(rt; source.read(&mut into) == Err(ReadFailed));
-    assert!(rt; source.faults == 1);
-    assert!(rt; source.read(&mut into) == Ok(2));
-    assert!(rt; into.as_slice() == b"dec".as_slice());
-    assert!(rt; source.read(&mut into) == Ok(0));
-    assert!(rt; source.faults == 1);
+    for (answer, faults, bytes) in READS {
+        assert!(rt; source.read(&mut into) == answer);
+        assert!(rt; source.faults == faults && into.as_slice() == bytes);
+    }
 }
 
+/// What is written, what that answers, and how many faults there are then.
+static WRITES: [(&[u8], Result<usize, WriteFailed>, u64); 3] = [
+    (b"abc", Ok(3), 0),
+    (b"def", Err(WriteFailed), 1),
+    (b"gh", Ok(2), 1),
+];
+
 #[test]
-fn a_writer_is_a_sink_that_counts_what_fails(rt: HostRuntime) -> Result<(), Fail> {
+fn a_writer_is_a_sink_that_counts_what_fails(rt: HostRuntime) {
     let mut sink = StreamSink::new(FailsSecond {
         inner: Vec::new(rt.alloc()),
         calls: 0,
     });
-    assert!(rt; sink.write(b"abc") == Ok(3));
-    assert!(rt; sink.write(b"def") == Err(WriteFailed));
-    assert!(rt; sink.faults == 1);
-    assert!(rt; sink.write(b"gh") == Ok(2));
+    for (bytes, answer, faults) in WRITES {
+        assert!(rt; sink.write(bytes) == answer);
+        assert!(rt; sink.faults == faults);
+    }
     assert!(rt; sink.writer.inner.as_slice() == b"abcgh".as_slice());
-    assert!(rt; sink.faults == 1);
-    Ok(())
 }

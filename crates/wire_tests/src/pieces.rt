@@ -49,36 +49,52 @@ fn pieces_are_gathered_in_their_order(rt: HostRuntime) -> Result<(), Fail> {
     Ok(())
 }
 
-#[test]
-fn what_is_cut_is_joined_again(rt: HostRuntime) -> Result<(), Fail> {
-    let lengths = [
-        (0, 1, 0),
-        (1, 1, 1),
-        (1439, 1, 1439),
-        (1440, 1, 1440),
-        (1441, 2, 1),
-        (92159, 64, 1439),
-        (92160, 64, 1440),
-    ];
-    for (len, pieces, last_len) in lengths {
-        let text = text_of(rt.alloc(), len)?;
-        let mut buffer = vec![in rt.alloc(); 0u8; LONG]?;
-        let mut gathered = Gathered::default();
-        assert!(rt; text.len() <= LONG);
-        assert!(rt; count(text.len()) == pieces);
-        for i in 0..count(text.len()) {
-            let part = piece(&text, i);
-            let last = i + 1 == pieces;
-            assert!(rt; part.len() == if last { last_len } else { 1440 });
-            let pushed = add(&mut gathered, &mut buffer, i, last, part);
-            let want = if last {
-                Pushed::Whole(len)
-            } else {
-                Pushed::More
-            };
-            assert!(rt; pushed == Some(want), "piece {i} of {len} bytes");
-        }
-        assert!(rt; buffer.starts_with(&text));
+/// Whether a text of this length is cut into so many pieces, of which the last has that length and each other one is
+/// full, and is joined from them again.
+fn is_cut_and_joined(
+    alloc: Global,
+    len: usize,
+    pieces: u16,
+    last_len: usize,
+) -> Result<bool, AllocError> {
+    let text = text_of(alloc, len)?;
+    if text.len() > LONG || count(text.len()) != pieces {
+        return Ok(false);
     }
-    Ok(())
+    let mut buffer = vec![in alloc; 0u8; LONG]?;
+    let mut gathered = Gathered::default();
+    for i in 0..count(text.len()) {
+        let part = piece(&text, i);
+        let last = i + 1 == pieces;
+        let (part_len, pushed) = if last {
+            (last_len, Pushed::Whole(len))
+        } else {
+            (1440, Pushed::More)
+        };
+        if part.len() != part_len
+            || add(&mut gathered, &mut buffer, i, last, part) != Some(pushed)
+        {
+            return Ok(false);
+        }
+    }
+    Ok(buffer.starts_with(&text))
+}
+
+/// Lengths of texts, their pieces, and the lengths of the last ones.
+static CUTS: [(usize, u16, usize); 7] = [
+    (0, 1, 0),
+    (1, 1, 1),
+    (1439, 1, 1439),
+    (1440, 1, 1440),
+    (1441, 2, 1),
+    (92159, 64, 1439),
+    (92160, 64, 1440),
+];
+
+#[test]
+fn what_is_cut_is_joined_again(rt: HostRuntime) {
+    for (len, pieces, last_len) in CUTS {
+        let is_so = is_cut_and_joined(rt.alloc(), len, pieces, last_len);
+        assert!(rt; is_so == Ok(true), "{len} bytes");
+    }
 }

@@ -1,6 +1,7 @@
 //! Pools under the plain law.
 ghost use Rattle.std.specs.Prelude.{◌≡◌, ◌≤◌, ◌<◌, ◌^◌, ◌+◌, true, [], IsTrue, IfOk, IfSome};
 ghost use Rattle.packet_board.specs.Hands.{HoldsNothing};
+ghost use Rattle.packet_board.specs.declared.buffer.TheConstants.{SMALL_BYTES};
 ghost use Rattle.packet_board.specs.Seats.{view, held, IsSeatOf};
 ghost use Rattle.packet_pool.specs.Cells.{last_order};
 ghost use Rattle.packet_pool.specs.Packets.{board_of, layout_in, number_of};
@@ -12,7 +13,7 @@ use crate::moves::{
     take_and_post, takes,
 };
 use ff_io::Station;
-use packet_board::{Closed, Layout, Seat, Word};
+use packet_board::{Closed, Layout, SMALL_BYTES, Seat, Word};
 use packet_pool::{Packet, PlainLaw, Pool, Unread};
 use rpc_header::{Activity, CallId, CallNumber, Export, Header, HeaderFault, Kind, fits};
 use std::alloc::{AllocError, Global};
@@ -79,17 +80,23 @@ fn claim_and_close(
     Some((claimed, pool.close(seat).ok()?))
 }
 
-#[test]
-fn a_pool_closes_when_all_seats_are_joined(rt: HostRuntime) -> Result<(), Fail> {
-    let (pool, seat, other) = pool_of_two(rt.alloc(), 1, 0)?;
+/// How many seats are out beside the first one of two, as the pool says it when it doesn't close; and once that seat is
+/// joined, how many packets are claimed, and how many buffers are left.
+fn closed_after_join(alloc: Global, small: usize) -> Option<(u64, u64, usize)>
+    requires { small ≤ 4095 }
+{
+    let (pool, seat, other) = pool_of_two(alloc, small, 0).ok()?;
     let (pool, seat, out) = match pool.close(seat) {
-        Ok(_) => panic!(rt; "a seat is out"),
+        Ok(_) => return None,
         Err(back) => back,
     };
-    assert!(rt; out == 1);
-    let (claimed, closed) = claim_and_close(pool, seat, other).ok_or("no seat is out")?;
-    assert!(rt; (claimed, closed.buffers.len()) == (0, 1));
-    Ok(())
+    let (claimed, closed) = claim_and_close(pool, seat, other)?;
+    Some((out, claimed, closed.buffers.len()))
+}
+
+#[test]
+fn a_pool_closes_when_all_seats_are_joined(rt: HostRuntime) {
+    assert!(rt; closed_after_join(rt.alloc(), 1) == Some((1, 0, 1)));
 }
 
 /// Whether no further packet is there to take.
@@ -196,14 +203,20 @@ fn a_packet_comes_back_until_another_seat_has_claimed(rt: HostRuntime) -> Result
     Ok(())
 }
 
+/// Whether a packet is taken, and one claimed, in a new pool with one ready cell, and how many buffers it leaves.
+fn moved_in_new(alloc: Global, small: usize) -> Option<(bool, bool, usize)>
+    requires { small ≤ 4095 }
+{
+    let (pool, mut seat) = pool_of_one(alloc, small, 1).ok()?;
+    let taken = takes(&pool, &mut seat);
+    let claimed = claims(&pool, &mut seat);
+    let closed = pool.close(seat).ok()?;
+    Some((taken, claimed, closed.buffers.len()))
+}
+
 #[test]
-fn a_pool_without_buffers_gives_none(rt: HostRuntime) -> Result<(), Fail> {
-    let (pool, mut seat) = pool_of_one(rt.alloc(), 0, 1)?;
-    let moved = [takes(&pool, &mut seat), claims(&pool, &mut seat)];
-    assert!(rt; moved == [false, false]);
-    let closed = pool.close(seat).ok().ok_or("no seat is out")?;
-    assert!(rt; closed.buffers.is_empty());
-    Ok(())
+fn a_pool_without_buffers_gives_none(rt: HostRuntime) {
+    assert!(rt; moved_in_new(rt.alloc(), 0) == Some((false, false, 0)));
 }
 
 /// The header of a call of one packet.
@@ -240,30 +253,58 @@ fn sealed(packet: &mut Packet, from: Station, to: Station) -> bool
     has_spelling
 }
 
-#[test]
-fn what_was_sealed_is_read_back(rt: HostRuntime) -> Result<(), Fail> {
-    let (pool, mut seat) = pool_of_one(rt.alloc(), 1, 0)?;
-    let (one, two) = (Station { machine: 1 }, Station { machine: 2 });
-    let Some(mut packet) = take(&pool, &mut seat) else {
-        panic!(rt; "the buffer is free")
-    };
-    assert!(rt; sealed(&mut packet, two, one));
+/// The length of a packet's frame, what comes of reading so many bytes of it at a station, and the length of its data
+/// then.
+fn read_at(packet: &mut Packet, len: usize, at: Station) -> (usize, Result<(), Unread>, usize)
+    requires { len ≤ SMALL_BYTES }
+    ensures { number_of packet.new ≡ number_of packet.old }
+{
+    let frame = packet.frame().len();
+    let answer = packet.read(len, at);
+    (frame, answer, packet.payload().len())
+}
+
+/// Whether a packet is a signal from a station with this header and these data.
+fn is_signal(packet: &Packet, from: Station, header: &Header, data: &[u8]) -> bool {
+    packet.payload() == data
+        && packet.header() == header
+        && packet.from() == from
+        && packet.is_signal()
+}
+
+/// Seals a packet, and reads it where it was not sent, where it was sent, and where it has data that is no header: the
+/// frame is right then, and its data too short. Whether each time that is seen, and the header stays.
+fn is_read_back(packet: &mut Packet, from: Station, to: Station) -> bool
+    ensures { number_of packet.new ≡ number_of packet.old }
+{
+    let has_spelling = sealed(packet, from, to);
     packet.set(true, 0);
-    let first = (
-        packet.frame().len(),
-        packet.read(79, two),
-        packet.payload().len(),
-    );
-    assert!(rt; first == (74, Err(Unread::Frame(FrameFault::NotForUs)), 0));
-    assert!(rt; packet.read(79, one) == Ok(()));
-    assert!(rt; (packet.payload(), packet.header()) == (b"hello".as_slice(), &CALL));
-    assert!(rt; (packet.from(), packet.is_signal()) == (two, true));
-    // Data that is no header: the frame is right, and its data too short.
-    write_headers(packet.whole(), one, two, 31);
-    let last = (packet.read(73, two), *packet.header());
-    assert!(rt; last == (Err(Unread::Header(HeaderFault::Short)), CALL));
+    let elsewhere = read_at(packet, 79, from);
+    let there = read_at(packet, 79, to);
+    let is_so = is_signal(packet, from, &CALL, b"hello");
+    write_headers(packet.whole(), to, from, 31);
+    let headless = read_at(packet, 73, from);
+    has_spelling
+        && elsewhere == (74, Err(Unread::Frame(FrameFault::NotForUs)), 0)
+        && there == (74, Ok(()), 5)
+        && is_so
+        && headless == (79, Err(Unread::Header(HeaderFault::Short)), 5)
+        && *packet.header() == CALL
+}
+
+/// The same, of the one packet of a new pool.
+fn new_is_read_back(alloc: Global, from: Station, to: Station) -> Option<bool> {
+    let (pool, mut seat) = pool_of_one(alloc, 1, 0).ok()?;
+    let mut packet = take(&pool, &mut seat)?;
+    let is_so = is_read_back(&mut packet, from, to);
     give(&pool, &mut seat, packet);
-    Ok(())
+    Some(is_so)
+}
+
+#[test]
+fn what_was_sealed_is_read_back(rt: HostRuntime) {
+    let (one, two) = (Station { machine: 1 }, Station { machine: 2 });
+    assert!(rt; new_is_read_back(rt.alloc(), two, one) == Some(true));
 }
 
 #[test]

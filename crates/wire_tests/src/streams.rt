@@ -25,16 +25,6 @@ fn read_two(source: &mut MemorySource) -> Result<(usize, [u8; 2]), ReadFailed> {
     Ok((read, into))
 }
 
-/// What is read to the end of a source of these bytes.
-fn read_to_end(alloc: Global, bytes: &[u8], limit: usize) -> Result<Vec<u8>, ReadAll> {
-    let mut source = source_of(alloc, bytes, &[])?;
-    read_all(alloc, &mut source, limit)
-}
-
-fn length_read(alloc: Global, bytes: &[u8], limit: usize) -> Result<usize, ReadAll> {
-    Ok(read_to_end(alloc, bytes, limit)?.len())
-}
-
 #[test]
 fn the_listed_reads_fail(rt: HostRuntime) -> Result<(), Fail> {
     let mut source = source_of(rt.alloc(), b"abcde", &[1, 3])?;
@@ -48,13 +38,14 @@ fn the_listed_reads_fail(rt: HostRuntime) -> Result<(), Fail> {
     Ok(())
 }
 
-#[test]
-fn the_listed_writes_fail(rt: HostRuntime) -> Result<(), Fail> {
-    let mut sink = sink_of(rt.alloc(), &[2], 5)?;
-    let writes = [sink.write(b"ab"), sink.write(b"cd"), sink.write(b"ef")];
-    assert!(rt; writes == [Ok(2), Err(WriteFailed), Ok(2)]);
-    assert!(rt; (sink.written(), sink.faults()) == (b"abef".as_slice(), 1));
-    Ok(())
+/// What is read to the end of a source of these bytes.
+fn read_to_end(alloc: Global, bytes: &[u8], limit: usize) -> Result<Vec<u8>, ReadAll> {
+    let mut source = source_of(alloc, bytes, &[])?;
+    read_all(alloc, &mut source, limit)
+}
+
+fn length_read(alloc: Global, bytes: &[u8], limit: usize) -> Result<usize, ReadAll> {
+    Ok(read_to_end(alloc, bytes, limit)?.len())
 }
 
 #[test]
@@ -69,48 +60,109 @@ fn a_source_is_read_to_its_end(rt: HostRuntime) {
     assert!(rt; lengths == [Err(ReadAll::TooLong), Ok(5), Ok(5), Ok(0)]);
 }
 
-#[test]
-fn a_long_source_is_read_to_its_end(rt: HostRuntime) -> Result<(), Fail> {
-    let long = text_of(rt.alloc(), 10_000)?;
-    assert!(rt; read_to_end(rt.alloc(), &long, 10_000)?.as_slice() == long.as_slice());
-    Ok(())
+/// Whether a text of this length is read to its end, and is as it was.
+fn is_read(alloc: Global, len: usize) -> Result<bool, ReadAll> {
+    let text = text_of(alloc, len)?;
+    Ok(read_to_end(alloc, &text, len)?.as_slice() == text.as_slice())
 }
 
 #[test]
-fn short_reads_are_read_on(rt: HostRuntime) -> Result<(), Fail> {
-    let inner = source_of(rt.alloc(), b"hello", &[])?;
+fn a_long_source_is_read_to_its_end(rt: HostRuntime) {
+    assert!(rt; is_read(rt.alloc(), 10_000) == Ok(true));
+}
+
+/// Reads `hello` to its end, two bytes at a time, from a source that fails at these reads: whether this fault comes, or
+/// the whole text, and these bytes and so many faults are left.
+fn reads_on(
+    alloc: Global,
+    fail: &[u64],
+    fault: Option<ReadAll>,
+    left: &[u8],
+    faults: u64,
+) -> Result<bool, AllocError> {
+    let inner = source_of(alloc, b"hello", fail)?;
     let mut source = Short { inner, most: 2 };
-    assert!(rt; read_all(rt.alloc(), &mut source, 5)?.as_slice() == b"hello".as_slice());
-    Ok(())
+    let is_so = match read_all(alloc, &mut source, 5) {
+        Ok(bytes) => fault.is_none() && bytes.as_slice() == b"hello".as_slice(),
+        Err(why) => fault == Some(why),
+    };
+    Ok(is_so && source.inner.left() == left && source.inner.faults() == faults)
 }
 
 #[test]
-fn a_read_that_fails_in_mid_stream_is_told(rt: HostRuntime) -> Result<(), Fail> {
-    let inner = source_of(rt.alloc(), b"hello", &[2])?;
-    let mut source = Short { inner, most: 2 };
-    assert!(rt; read_all(rt.alloc(), &mut source, 5).err() == Some(ReadAll::Failed));
-    assert!(rt; source.inner.faults() == 1);
-    assert!(rt; source.inner.left() == b"llo".as_slice());
-    Ok(())
+fn short_reads_are_read_on(rt: HostRuntime) {
+    assert!(rt; reads_on(rt.alloc(), &[], None, b"", 0) == Ok(true));
 }
 
 #[test]
-fn short_writes_are_written_on(rt: HostRuntime) -> Result<(), Fail> {
-    let inner = sink_of(rt.alloc(), &[], 5)?;
+fn a_read_that_fails_in_mid_stream_is_told(rt: HostRuntime) {
+    assert!(rt; reads_on(rt.alloc(), &[2], Some(ReadAll::Failed), b"llo", 1) == Ok(true));
+}
+
+/// Writes `hello` two bytes at a time to a sink that fails at these writes: whether this is answered, and these bytes are
+/// written and so many faults counted.
+fn writes_on(
+    alloc: Global,
+    fail: &[u64],
+    answer: Result<(), WriteFailed>,
+    written: &[u8],
+    faults: u64,
+) -> Result<bool, AllocError> {
+    let inner = sink_of(alloc, fail, 5)?;
     let mut sink = Short { inner, most: 2 };
-    write_all(&mut sink, b"hello")?;
-    assert!(rt; sink.inner.written() == b"hello".as_slice());
-    Ok(())
+    let is_so = write_all(&mut sink, b"hello") == answer;
+    Ok(is_so && sink.inner.written() == written && sink.inner.faults() == faults)
 }
 
 #[test]
-fn a_write_that_fails_in_mid_stream_leaves_a_prefix(rt: HostRuntime) -> Result<(), Fail> {
-    let inner = sink_of(rt.alloc(), &[2], 5)?;
-    let mut sink = Short { inner, most: 2 };
-    assert!(rt; write_all(&mut sink, b"hello") == Err(WriteFailed));
-    assert!(rt; sink.inner.written() == b"he".as_slice());
-    assert!(rt; sink.inner.faults() == 1);
-    Ok(())
+fn short_writes_are_written_on(rt: HostRuntime) {
+    assert!(rt; writes_on(rt.alloc(), &[], Ok(()), b"hello", 0) == Ok(true));
+}
+
+#[test]
+fn a_write_that_fails_in_mid_stream_leaves_a_prefix(rt: HostRuntime) {
+    assert!(rt; writes_on(rt.alloc(), &[2], Err(WriteFailed), b"he", 1) == Ok(true));
+}
+
+/// What is written, and what that answers.
+type Write = (&'static [u8], Result<usize, WriteFailed>);
+
+/// Whether a sink with room for five bytes that fails at these writes answers these, and has these bytes and so many
+/// faults then.
+fn takes(
+    alloc: Global,
+    fail: &[u64],
+    writes: &[Write],
+    written: &[u8],
+    faults: u64,
+) -> Result<bool, AllocError> {
+    let mut sink = sink_of(alloc, fail, 5)?;
+    for (bytes, answer) in writes {
+        if sink.write(bytes) != *answer {
+            return Ok(false);
+        }
+    }
+    Ok(sink.written() == written && sink.faults() == faults)
+}
+
+static SECOND_FAILS: [Write; 3] = [(b"ab", Ok(2)), (b"cd", Err(WriteFailed)), (b"ef", Ok(2))];
+
+#[test]
+fn the_listed_writes_fail(rt: HostRuntime) {
+    assert!(rt; takes(rt.alloc(), &[2], &SECOND_FAILS, b"abef", 1) == Ok(true));
+}
+
+static TOO_MANY: [Write; 5] = [
+    (b"abc", Ok(3)),
+    (b"def", Err(WriteFailed)),
+    (b"de", Ok(2)),
+    (b"", Ok(0)),
+    (b"f", Err(WriteFailed)),
+];
+
+#[test]
+fn a_sink_takes_no_more_than_its_room(rt: HostRuntime) {
+    assert!(rt; takes(rt.alloc(), &[], &TOO_MANY, b"abcde", 2) == Ok(true));
 }
 
 #[test]
@@ -120,20 +172,6 @@ fn what_the_room_holds_counts_as_written(rt: HostRuntime) -> Result<(), Fail> {
     let mut sink = MemorySink::new(Vec::new(rt.alloc()), room);
     write_all(&mut sink, b"new")?;
     assert!(rt; sink.written() == b"old new".as_slice());
-    Ok(())
-}
-
-#[test]
-fn a_sink_takes_no_more_than_its_room(rt: HostRuntime) -> Result<(), Fail> {
-    let mut sink = sink_of(rt.alloc(), &[], 5)?;
-    let three = sink.write(b"abc");
-    let too_many = sink.write(b"def");
-    let two = sink.write(b"de");
-    assert!(rt; sink.written() == b"abcde".as_slice());
-    let full = [sink.write(b""), sink.write(b"f")];
-    assert!(rt; [three, too_many, two] == [Ok(3), Err(WriteFailed), Ok(2)]);
-    assert!(rt; full == [Ok(0), Err(WriteFailed)]);
-    assert!(rt; sink.faults() == 2);
     Ok(())
 }
 
