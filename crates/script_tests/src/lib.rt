@@ -9,4 +9,6 @@ mod script_faults;
 #[cfg(test)]
 mod scripts;
 #[cfg(test)]
+mod telling;
+#[cfg(test)]
 mod transcript_lines;
