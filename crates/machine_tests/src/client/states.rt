@@ -299,13 +299,16 @@ fn arguments(alloc: Global, count: u16) -> Result<Vec<u8>, AllocError> {
 fn a_call_of_three_pieces_is_acknowledged_one_by_one(rt: HostRuntime) -> Result<(), Fail> {
     let alloc = rt.alloc();
     let text = arguments(alloc, 2996)?;
+    let pieces = [
+        (Act::LongCall, Sends(FIRST, 1440), 0, 1440),
+        (Act::Take(ACK_0, Data::Empty), C1, 1440, 2880),
+        (Act::Take(ACK_1, Data::Empty), C2, 2880, 3000),
+    ];
     let mut trial = Trial::new(alloc)?;
-    assert!(rt; trial.sees(alloc, Act::LongCall)? == Sends(FIRST, 1440));
-    assert!(rt; Some(trial.data.as_slice()) == text.get(..1440));
-    assert!(rt; trial.sees(alloc, Act::Take(ACK_0, Data::Empty))? == C1);
-    assert!(rt; Some(trial.data.as_slice()) == text.get(1440..2880));
-    assert!(rt; trial.sees(alloc, Act::Take(ACK_1, Data::Empty))? == C2);
-    assert!(rt; Some(trial.data.as_slice()) == text.get(2880..));
+    for (act, seen, from, to) in pieces {
+        assert!(rt; trial.sees(alloc, act)? == seen);
+        assert!(rt; text.get(from..to) == Some(trial.data.as_slice()));
+    }
     assert!(rt; trial.sees(alloc, Act::Take(ACK_2, Data::Empty))? == W);
     assert!(rt; fourth_tick_is(&mut trial, alloc, Sends(PROBE, 0))?);
     assert!(rt; trial.sees(alloc, Act::Take(REPLY, Data::Fives))? == SHORT);
