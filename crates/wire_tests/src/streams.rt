@@ -162,6 +162,7 @@ static TOO_MANY: [Write; 5] = [
 
 #[test]
 fn a_sink_takes_no_more_than_its_room(rt: HostRuntime) {
+    assert!(rt; takes(rt.alloc(), &[], &TOO_MANY[..3], b"abcde", 1) == Ok(true));
     assert!(rt; takes(rt.alloc(), &[], &TOO_MANY, b"abcde", 2) == Ok(true));
 }
 
