@@ -1,5 +1,5 @@
 -- A load that brings a slot to the front, and what a seat is ready for after its front slot changed.
-use Rattle.std.proofs.Common.{◌≡◌, ℕ, ◌+◌, ◌<◌, ◌≤◌, true, eq-eqb, ne_eqb, if◌then◌else◌, nat_lt, List, [], ◌∷◌, ◌++◌, set, set-set, get_or, Option, Some, None, sym, ap, ◌∙◌, subst, arith}
+use Rattle.std.proofs.Common.{◌≡◌, ℕ, ◌+◌, ◌<◌, ◌≤◌, true, eq-eqb, ne_eqb, if◌then◌else◌, List, [], ◌∷◌, ◌++◌, set, set-set, get_or, Option, Some, None, sym, ap, ◌∙◌, subst, arith}
 use Rattle.std.proofs.lemmas.List.{set-get_or}
 use mathlib.Core.Option.{some, none, some-injective, some-ne-none}
 use mathlib.Core.Logic.{dite}
@@ -11,13 +11,14 @@ use Rattle.packet_board.specs.declared.word.Word.{Word}
 use Rattle.packet_board.specs.declared.layout.Layout.{Layout}
 use Rattle.packet_board.specs.declared.buffer.Buffer.{Buffer}
 use Rattle.packet_board.specs.declared.view.View.{View}
-use Rattle.packet_board.specs.Words.{one_if, times, in_words, buffers_of, cell_count, IsBuffer}
+use Rattle.packet_board.specs.Words.{times, buffers_of, cell_count, IsBuffer}
 use Rattle.packet_board.specs.Hands.{Slots, lookup, removed, keys}
-use Rattle.packet_board.specs.Views.{in_hands}
 use Rattle.packet_board.specs.Laws.{Homes, Sound, Law}
 use Rattle.packet_board.specs.Rule.{Kept, Ready, Mine, cells_of, out_of, brought}
-use Rattle.packet_board.proofs.Counts.{below, one_at_most, times_without, weigh_at}
-use Rattle.packet_board.proofs.Slots.{counted_key, other_slot, keys_removed, cut, Out, rise, Given, rises}
+use Rattle.packet_board.specs.Weights.{below, times_without}
+use Rattle.packet_board.specs.Holding.{counted_key}
+use Rattle.packet_board.specs.Custody.{in_no_word}
+use Rattle.packet_board.proofs.Slots.{other_slot, keys_removed, cut, Out, rise, Given, rises}
 
 -- the act that gives a slot back from wherever it stands among the seat's
 pub lifted : (hs : Homes) (c : Slots) (n : ℕ) (y : Option Buffer) → Out hs c → lookup c n ≡ some y → (a : Act (Option Buffer)) × Given hs c a n y (removed n c)
@@ -29,11 +30,6 @@ pub inside : (l k : Layout) (n words : ℕ) → n < buffers_of l → l ≡ k →
 inside l k n words h e w = let h' : n < buffers_of k = subst (λ (z : Layout). n < buffers_of z) e h in omega (arith, h', w)
 
 module _ {N : Type 0} where
-  -- a number in a seat's hands is in no word
-  pub in_no_word : (k : Layout) (ws : List Word) (out : ℕ) (hs : Homes) (vs : List (View N)) (id : ℕ) (v : View N) (n : ℕ) → Sound k ws out hs vs → get_elem? vs id ≡ some v → 1 ≤ times n v.hands → in_words n ws ≡ 0
-  in_no_word k ws out hs vs id v n sound at h = let a = weigh_at (λ (w : View N). times n w.hands) vs id v at in let c = sound.custody n in let m = one_at_most (nat_lt n (buffers_of k)) in
-      let x : ℕ = in_words n ws in let y : ℕ = in_hands n vs in let a' : times n v.hands ≤ y = a in let z : ℕ = one_if (nat_lt n (buffers_of k)) in let c' : x + y ≡ z = c in omega (arith, a', c', m, h)
-
   pub outs : (k : Layout) (ws : List Word) (out : ℕ) (hs : Homes) (vs : List (View N)) (id : ℕ) (v : View N) (c : Slots) → Sound k ws out hs vs → get_elem? vs id ≡ some v → Ready v c → Out hs c
   outs k ws out hs vs id v c sound at ready n h = let tied = ready.tied n in let single = ready.single n in let mine : 1 ≤ times n v.hands = omega (arith, tied, h) in
       let there = subst (λ (l : Layout). n < buffers_of l) (sound.of_layout id v at ready.live) (ready.numbered n mine) in
@@ -77,22 +73,6 @@ front_of (x ∷ xs) = x.1
 pub was_front : (c d : Slots) (n : ℕ) (y r : Option Buffer) → c ≡ (n, y) ∷ d → c ≡ (n, r) ∷ rest c → y ≡ r
 unfolding front_of
 was_front c d n y r e f = ap front_of (sym e ∙ f)
-
-buffer_or : Buffer → Option Buffer → Buffer
-buffer_or d None = d
-buffer_or d (Some y) = y
-
-pub one_buffer : (x y : Buffer) → Some x ≡ Some y → x ≡ y
-unfolding buffer_or
-one_buffer x y e = ap (buffer_or x) e
-
-full_or_not : Option Buffer → Type 0
-full_or_not None = Unit {0}
-full_or_not (Some y) = ⊥
-
-pub no_buffer : (y : Buffer) → None ≡ Some y → ⊥
-unfolding full_or_not
-no_buffer y e = subst full_or_not e tt
 
 module _ {N : Type 0} where
   -- another view with the same hands

@@ -16,9 +16,9 @@ use Rattle.packet_board.specs.Views.{in_hands}
 use Rattle.packet_board.specs.Laws.{Homes, Sound, Law}
 use Rattle.packet_board.specs.Rule.{Kept, cells_of, out_of}
 use Rattle.packet_board.specs.Seats.{Ended}
-use Rattle.packet_board.proofs.Counts.{below}
-use Rattle.packet_board.proofs.Brings.{one_buffer}
-use Rattle.packet_board.proofs.Turns.{only}
+use Rattle.packet_board.specs.Weights.{below}
+use Rattle.packet_board.specs.Holding.{same_value}
+use Rattle.packet_board.specs.Custody.{only}
 use Rattle.packet_board.proofs.Openings.{length_mapped}
 
 module _ {A : Type 0} where
@@ -105,7 +105,7 @@ module _ {N : Type 0} where
           fit = subst (λ (z : List ℕ). (cell : ℕ) (w : Word) → get_elem? (cells_of z) cell ≡ some w → Fits w) (sym same) fit;
           custody = named;
           bounds = λ j y e. let f : get_elem? xs j ≡ some (Some y) = ap (λ (z : List (Option Buffer)). get_elem? z j) (sym is) ∙ mapped_at Some bs j y e in let room = inside j (Some y) f in let h = home j room in
-              subst (IsBuffer k j) (one_buffer h.0 y (some-injective (Some h.0) (Some y) (sym (full j room) ∙ f))) h.2;
+              subst (IsBuffer k j) (same_value h.0 y (some-injective (Some h.0) (Some y) (sym (full j room) ∙ f))) h.2;
           lawful = subst (λ (z : List (Option Buffer)). holds k ws z vs) (all ∙ sym is) kept.stands.lawful;
         };
       }

@@ -6,12 +6,13 @@ use mathlib.Core.Logic.{dite}
 use native.Mathlib.Decide.{ℕ_discrete}
 use lib.ListN.{get_elem?}
 use Rattle.atomic_table.specs.Table.{Act, keeps, takes, carried_after, homes_after, Valid}
-use Rattle.atomic_table.proofs.Lists.{set_here, set_else}
+use Rattle.atomic_table.proofs.Lists.{set_here}
 use Rattle.packet_board.specs.declared.buffer.Buffer.{Buffer}
 use Rattle.packet_board.specs.Words.{one_if, names, times}
 use Rattle.packet_board.specs.Hands.{gives_of, takes_of, lose, gain, placed, flat, Slots, Held, lookup, drop_out, take_in, keys, updated, given_away, taken_in, CanGive, given_by}
 use Rattle.packet_board.specs.Laws.{Homes}
-use Rattle.packet_board.proofs.Counts.{one_same, one_other, same_one, one_at_most}
+use Rattle.packet_board.specs.Weights.{one_other, same_one, one_at_most}
+use Rattle.packet_board.specs.Holding.{same_takes, other_takes}
 use Rattle.packet_board.proofs.Slots.{keys_removed, gone_held, Out}
 use Rattle.packet_board.proofs.Brings.{lifted}
 
@@ -20,12 +21,6 @@ same_gives o n e = subst (λ t. (if t then None else Some n) ≡ None) (sym (eq-
 
 other_gives : (o n : ℕ) → o ≢ n → gives_of (Some o) (Some n) ≡ Some n
 other_gives o n ne = subst (λ t. (if t then None else Some n) ≡ Some n) (sym (ne_eqb o n ne)) refl
-
-same_takes : (o n : ℕ) → o ≡ n → takes_of (Some o) (Some n) ≡ None
-same_takes o n e = subst (λ t. (if t then None else Some o) ≡ None) (sym (eq-eqb o n e)) refl
-
-other_takes : (o n : ℕ) → o ≢ n → takes_of (Some o) (Some n) ≡ Some o
-other_takes o n ne = subst (λ t. (if t then None else Some o) ≡ Some o) (sym (ne_eqb o n ne)) refl
 
 -- what leaves a word comes into the hands, and what leaves the hands comes into the word
 pub flows : (a b : Option ℕ) (n : ℕ) → names n a + names n (gives_of a b) ≡ names n b + names n (takes_of a b)
@@ -46,29 +41,6 @@ apart (Some o) (Some m) n = dite (ℕ_discrete o m)
     (λ ne. let g = ap (names n) (other_gives o m ne) in let t = ap (names n) (other_takes o m ne) in let h = one_at_most (m == n) in
     dite (ℕ_discrete o n) (λ e. let z = one_other m n (λ p. ne (e ∙ sym p)) in let h' = one_at_most (o == n) in omega (arith, g, t, z, h')) (λ no'. let z = one_other o n no' in omega (arith, g, t, z, h)))
 
-full_here : {A : Type 0} → Option A → Type 0
-full_here None = ⊥
-full_here (Some x) = Unit {0}
-
-pub none_not_some : {A : Type 0} (x : A) → None ≡ Some x → ⊥
-unfolding full_here
-none_not_some x e = subst (λ z. full_here z) (sym e) tt
-
-value_or : ℕ → Option ℕ → ℕ
-value_or d None = d
-value_or d (Some n) = n
-
-pub same_number : (m n : ℕ) → Some m ≡ Some n → m ≡ n
-unfolding value_or
-same_number m n e = ap (value_or m) e
-
--- what is taken stood in the old word
-pub takes_from : (a b : Option ℕ) (o : ℕ) → takes_of a b ≡ Some o → a ≡ Some o
-takes_from None None o e = e
-takes_from None (Some m) o e = absurd (none_not_some o e)
-takes_from (Some x) None o e = e
-takes_from (Some x) (Some m) o e = dite (ℕ_discrete x m) (λ p. absurd (none_not_some o (sym (same_takes x m p) ∙ e))) (λ ne. sym (other_takes x m ne) ∙ e)
-
 module _ {A : Type 0} where
   pub length_placed : (g : Option ℕ) (a : A) (l : List A) → length (placed g a l) ≡ length l
   length_placed None a l = refl
@@ -77,10 +49,6 @@ module _ {A : Type 0} where
   pub placed_here : (g : Option ℕ) (a : A) (l : List A) (b : ℕ) → 1 ≤ names b g → b < length l → get_elem? (placed g a l) b ≡ some a
   placed_here None a l b h room = absurd (omega arith)
   placed_here (Some n) a l b h room = let e = same_one n b h in subst (λ (z : ℕ). get_elem? (set l n a) z ≡ some a) e (set_here l n a (subst (λ (z : ℕ). z < length l) (sym e) room))
-
-  pub placed_else : (g : Option ℕ) (a : A) (l : List A) (b : ℕ) → names b g ≡ 0 → get_elem? (placed g a l) b ≡ get_elem? l b
-  placed_else None a l b h = refl
-  placed_else (Some n) a l b h = set_else l n b a (λ e. let o = one_same n b (sym e) in absurd (omega (arith, o, h)))
 
 pub map_placed : {A B : Type 0} (f : A → B) (g : Option ℕ) (a : A) (l : List A) → map f (placed g a l) ≡ placed g (f a) (map f l)
 map_placed f None a l = refl

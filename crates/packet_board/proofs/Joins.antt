@@ -11,7 +11,7 @@ use Rattle.packet_board.specs.Words.{one_if, times, in_words}
 use Rattle.packet_board.specs.Views.{begun, settled, newcomer, joined, spent, in_hands}
 use Rattle.packet_board.specs.Laws.{Homes, Sound, Law, Parts, Merges}
 use Rattle.packet_board.specs.Rule.{Kept, cells_of, out_of}
-use Rattle.packet_board.proofs.Counts.{below, weigh_set, weigh_more}
+use Rattle.packet_board.specs.Weights.{below, weigh_set, weigh_more}
 use Rattle.packet_board.proofs.Turns.{not_first, seen_of}
 
 first_of : {A : Type 0} (xs : List A) (a b : A) → 0 < length xs → get_elem? (xs ++ a ∷ []) 0 ≡ some b → get_elem? xs 0 ≡ some b

@@ -1,4 +1,3 @@
-pub mod Counts
 pub mod Slots
 pub mod Brings
 pub mod Cells
@@ -9,4 +8,3 @@ pub mod Flows
 pub mod Swaps
 pub mod Openings
 pub mod Closings
-pub mod Held

@@ -1,5 +1,5 @@
 -- A new board: its words, its buffers, and its rule.
-use Rattle.std.proofs.Common.{◌≡◌, ◌≢◌, ℕ, zero, suc, ◌+◌, ◌<◌, ◌≤◌, if◌then◌else◌, true≢false, nat_lt, lt-ltb, le-ltb, ltb-true, List, [], ◌∷◌, ◌++◌, length, length-append, map, Option, Some, refl, sym, ap, ◌∙◌, subst, arith, add-one, lt_of_not-le}
+use Rattle.std.proofs.Common.{◌≡◌, ◌≢◌, ℕ, zero, suc, ◌+◌, ◌<◌, ◌≤◌, true≢false, nat_lt, lt-ltb, le-ltb, ltb-true, List, [], ◌∷◌, ◌++◌, length, length-append, map, Option, Some, refl, sym, ap, ◌∙◌, subst, arith, add-one, lt_of_not-le}
 use Rattle.std.proofs.lemmas.List.{map_push}
 use mathlib.Core.Option.{some, some-injective, some-ne-none}
 use mathlib.Core.Logic.{dite}
@@ -10,12 +10,13 @@ use Rattle.packet_board.specs.declared.word.Word.{Word}
 use Rattle.packet_board.specs.declared.layout.Layout.{Layout}
 use Rattle.packet_board.specs.declared.buffer.Buffer.{Buffer}
 use Rattle.packet_board.specs.declared.view.View.{View}
-use Rattle.packet_board.specs.Words.{one_if, names, in_words, full, empty, first_word, first_words, first_cells, Fits, packed, unpacked, buffers_of, cell_count, bytes_of, IsNew, AreNew}
+use Rattle.packet_board.specs.Words.{one_if, names, in_words, first_word, first_words, first_cells, Fits, packed, unpacked, buffers_of, cell_count, bytes_of, IsNew, AreNew}
 use Rattle.packet_board.specs.Hands.{flat}
 use Rattle.packet_board.specs.Views.{opening_view}
 use Rattle.packet_board.specs.Laws.{Homes, Sound, Law, Opens}
 use Rattle.packet_board.specs.Rule.{Kept}
-use Rattle.packet_board.proofs.Counts.{at_below, weigh_more, one_same, one_other, from_one}
+use Rattle.packet_board.specs.Weights.{at_below, weigh_more, one_same, one_other, from_one}
+use Rattle.packet_board.specs.Opening.{length_first, free_word, other_word}
 use Rattle.packet_board.proofs.Packs.{unpacked_packed}
 
 module _ {A : Type 0} where
@@ -31,15 +32,6 @@ module _ {A : Type 0} where
   at_pushed (x ∷ xs) a b zero e h = absurd (omega arith)
   at_pushed (x ∷ xs) a b (suc j) e h = at_pushed xs a b j e (omega arith)
 
-  pub push_at : (xs : List A) (a b : A) (j : ℕ) → get_elem? xs j ≡ some b → get_elem? (xs ++ a ∷ []) j ≡ some b
-  push_at [] a b j e = absurd (some-ne-none b (sym e))
-  push_at (x ∷ xs) a b zero e = e
-  push_at (x ∷ xs) a b (suc j) e = push_at xs a b j e
-
-  pub push_last : (xs : List A) (a : A) → get_elem? (xs ++ a ∷ []) (length xs) ≡ some a
-  push_last [] a = refl
-  push_last (x ∷ xs) a = push_last xs a
-
   pub map_some_at : (xs : List A) (j : ℕ) (a : A) → get_elem? xs j ≡ some a → get_elem? (map some xs) j ≡ some (some a)
   map_some_at [] j a e = absurd (some-ne-none a (sym e))
   map_some_at (x ∷ xs) zero a e = ap some e
@@ -48,23 +40,6 @@ module _ {A : Type 0} where
   pub length_mapped : {B : Type 0} (f : A → B) (xs : List A) → length (map f xs) ≡ length xs
   length_mapped f [] = refl
   length_mapped f (x ∷ xs) = ap suc (length_mapped f xs)
-
-pub length_first : (k : Layout) (n : ℕ) → length (first_words k n) ≡ n
-length_first k zero = refl
-length_first k (suc n) = let r = length_first k n in length-append (first_words k n) (first_word k n ∷ []) ∙ (omega (arith, r))
-
--- the first word of a cell
-pub first_at : (k : Layout) (n i : ℕ) → i < n → get_elem? (first_words k n) i ≡ some (first_word k i)
-first_at k zero i h = absurd (omega arith)
-first_at k (suc n) i h = dite (ℕ_discrete i n)
-    (λ e. subst (λ (z : ℕ). get_elem? (first_words k n ++ first_word k n ∷ []) z ≡ some (first_word k z)) (sym e) (subst (λ (z : ℕ). get_elem? (first_words k n ++ first_word k n ∷ []) z ≡ some (first_word k n)) (length_first k n) (push_last (first_words k n) (first_word k n))))
-    (λ ne. push_at (first_words k n) (first_word k n) (first_word k i) i (first_at k n i (omega arith)))
-
-free_word : (k : Layout) (i : ℕ) → i < buffers_of k → first_word k i ≡ full i
-free_word k i h = subst (λ t. (if t then full i else empty) ≡ full i) (sym (lt-ltb i (buffers_of k) h)) refl
-
-other_word : (k : Layout) (i : ℕ) → buffers_of k ≤ i → first_word k i ≡ empty
-other_word k i h = subst (λ t. (if t then full i else empty) ≡ empty) (sym (le-ltb i (buffers_of k) h)) refl
 
 first_fits : (k : Layout) (i : ℕ) → buffers_of k ≤ 4095 → Fits (first_word k i)
 first_fits k i few = dite (dec_le (buffers_of k) i) (λ h. subst Fits (sym (other_word k i h)) ((omega arith), tt))

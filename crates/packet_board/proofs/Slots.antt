@@ -12,12 +12,7 @@ use Rattle.packet_board.specs.declared.buffer.Buffer.{Buffer}
 use Rattle.packet_board.specs.Words.{times}
 use Rattle.packet_board.specs.Hands.{without, Slots, lookup, removed, keys, updated}
 use Rattle.packet_board.specs.Laws.{Homes}
-use Rattle.packet_board.proofs.Counts.{below, one_same, chosen, times_without}
-
-pub counted_key : (c : Slots) (n : ℕ) (y : Option Buffer) → lookup c n ≡ some y → 1 ≤ times n (keys c)
-counted_key [] n y e = absurd (some-ne-none y (sym e))
-counted_key (x ∷ xs) n y e = dite (ℕ_discrete x.0 n) (λ is. let o = one_same x.0 n is in omega (arith, o))
-    (λ ne. let o : lookup xs n ≡ some y = subst (λ t. (if t then some x.1 else lookup xs n) ≡ some y) (ne_eqb x.0 n ne) e in let r = counted_key xs n y o in omega (arith, r))
+use Rattle.packet_board.specs.Weights.{below, one_same, chosen, times_without}
 
 pub no_key : (c : Slots) (n : ℕ) → times n (keys c) ≡ 0 → lookup c n ≡ none
 no_key [] n e = refl

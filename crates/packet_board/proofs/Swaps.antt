@@ -18,17 +18,18 @@ use Rattle.packet_board.specs.Views.{looked, exchanged, in_hands}
 use Rattle.packet_board.specs.Laws.{Homes, Sound, Law, Allowing, Looks, Exchanges, Learns, Picks}
 use Rattle.packet_board.specs.Rule.{Kept, Ready, Mine, cells_of, out_of, Swapped, swapped, at_word}
 use Rattle.packet_board.specs.Seats.{Exchanged}
-use Rattle.packet_board.proofs.Counts.{weigh_set, weigh_at, one_at_most, names_self, names_at_most, names_is, from_one, times_lose, times_gain}
-use Rattle.packet_board.proofs.Slots.{counted_key, gone_held}
-use Rattle.packet_board.proofs.Brings.{outs, one_buffer, still_ready}
+use Rattle.packet_board.specs.Weights.{weigh_set, weigh_at, one_at_most, names_self, names_at_most, names_is, from_one, times_lose, times_gain}
+use Rattle.packet_board.specs.Holding.{counted_key, none_not_some, same_value, takes_from, placed_else}
+use Rattle.packet_board.proofs.Slots.{gone_held}
+use Rattle.packet_board.proofs.Brings.{outs, still_ready}
 use Rattle.packet_board.proofs.Cells.{cell_there, cells_set, out_kept}
 use Rattle.packet_board.proofs.Packs.{unpacked_apart}
 use Rattle.packet_board.proofs.Turns.{not_first, seen_of, was_at, looks_again}
-use Rattle.packet_board.proofs.Flows.{flows, apart, none_not_some, same_number, takes_from, length_placed, placed_here, placed_else, map_placed, keys_after, held_after, giving, taking}
+use Rattle.packet_board.proofs.Flows.{flows, apart, length_placed, placed_here, map_placed, keys_after, held_after, giving, taking}
 
 taken_room : (k : Layout) (t : Option ℕ) (found : Option Buffer) → Found k t found → (n : ℕ) → 1 ≤ names n t → n < buffers_of k
 taken_room k None found sort n h = absurd (omega arith)
-taken_room k (Some o) found sort n h = subst (λ (z : ℕ). z < buffers_of k) (same_number o n (names_is n (Some o) h)) sort.2
+taken_room k (Some o) found sort n h = subst (λ (z : ℕ). z < buffers_of k) (same_value o n (names_is n (Some o) h)) sort.2
 
 module _ {N : Type 0} where
   -- a number that a word names is in no hands, and is that of a buffer
@@ -45,7 +46,7 @@ module _ {N : Type 0} where
   finding : (k : Layout) (ws : List Word) (out : ℕ) (hs : Homes) (vs : List (View N)) → Sound k ws out hs vs → (t : Option ℕ) → ((o : ℕ) → t ≡ Some o → (in_words o ws ≡ 1) × (in_hands o vs ≡ 0) × (o < buffers_of k))
       → (found : Option Buffer) × Found k t found × ((o : ℕ) → t ≡ Some o → get_elem? hs o ≡ some (some found))
   finding k ws out hs vs sound None there = (None, refl, λ o e. absurd (none_not_some o e))
-  finding k ws out hs vs sound (Some o) there = let h = there o refl in let y = sound.home o h.0 in (Some y.0, (y.0, refl, h.2, y.2), λ m e. subst (λ (z : ℕ). get_elem? hs z ≡ some (some (Some y.0))) (same_number o m e) y.1)
+  finding k ws out hs vs sound (Some o) there = let h = there o refl in let y = sound.home o h.0 in (Some y.0, (y.0, refl, h.2, y.2), λ m e. subst (λ (z : ℕ). get_elem? hs z ≡ some (some (Some y.0))) (same_value o m e) y.1)
 
   -- the state after an exchange
   moved : (k : Layout) (ws : List Word) (out : ℕ) (hs : Homes) (vs : List (View N)) (id : ℕ) (v : View N) (cell : ℕ) (old new : Word) (given : Option Buffer) (notes : N) → Sound k ws out hs vs → get_elem? vs id ≡ some v → v.live ≡ true
@@ -79,7 +80,7 @@ module _ {N : Type 0} where
 
   given_buffer : (v : View N) (c : Slots) (k : Layout) (g : Option ℕ) → Ready v c → v.layout ≡ k → CanGive g (lookup c) → (n : ℕ) → g ≡ Some n → (1 ≤ times n v.hands) × ((y : Buffer) × (given_by g (lookup c) ≡ Some y) × (n < buffers_of k) × IsBuffer k n y)
   given_buffer v c k None ready lay can n e = absurd (none_not_some n e)
-  given_buffer v c k (Some m) ready lay can n e = let is = same_number m n e in let once = counted_key c m (Some can.0) can.1 in let tied = ready.tied m in let mine : 1 ≤ times m v.hands = omega (arith, once, tied) in
+  given_buffer v c k (Some m) ready lay can n e = let is = same_value m n e in let once = counted_key c m (Some can.0) can.1 in let tied = ready.tied m in let mine : 1 ≤ times m v.hands = omega (arith, once, tied) in
       let y : Buffer = can.0 in let room = subst (λ (l : Layout). m < buffers_of l) lay (ready.numbered m mine) in let fits = subst (λ (l : Layout). IsBuffer l m y) lay (ready.bounded m y can.1) in
       (subst (λ (z : ℕ). 1 ≤ times z v.hands) is mine, (y, ap flat can.1, subst (λ (z : ℕ). z < buffers_of k) is room, subst (λ (z : ℕ). IsBuffer k z y) is fits))
 
@@ -162,13 +163,13 @@ module _ {N : Type 0} where
   after_bounded v c g None found ready once sort n y e = dropped_bounded v c g ready once n y e
   after_bounded v c g (Some o) found ready once sort n y e = dite (ℕ_discrete o n)
       (λ is. let f : found ≡ Some y = some-injective found (Some y) (subst (λ t. (if t then some found else lookup (drop_out g c) n) ≡ some (Some y)) (eq-eqb o n is) e) in
-      subst (λ (z : ℕ). IsBuffer v.layout z y) is (subst (λ (z : Buffer). IsBuffer v.layout o z) (one_buffer sort.0 y (sym sort.1 ∙ f)) sort.3))
+      subst (λ (z : ℕ). IsBuffer v.layout z y) is (subst (λ (z : Buffer). IsBuffer v.layout o z) (same_value sort.0 y (sym sort.1 ∙ f)) sort.3))
       (λ ne. dropped_bounded v c g ready once n y (subst (λ t. (if t then some found else lookup (drop_out g c) n) ≡ some (Some y)) (ne_eqb o n ne) e))
 
   -- what is given away is in the hands just once
   pub given_once : (v : View N) (c : Slots) (g : Option ℕ) → Ready v c → CanGive g (lookup c) → (n : ℕ) → g ≡ Some n → times n (keys c) ≡ 1
   given_once v c None ready can n e = absurd (none_not_some n e)
-  given_once v c (Some m) ready can n e = let is = same_number m n e in let once = counted_key c m (Some can.0) can.1 in let tied = ready.tied m in let single = ready.single m in
+  given_once v c (Some m) ready can n e = let is = same_value m n e in let once = counted_key c m (Some can.0) can.1 in let tied = ready.tied m in let single = ready.single m in
       subst (λ (z : ℕ). times z (keys c) ≡ 1) is (let x : ℕ = times m (keys c) in let y : ℕ = times m v.hands in let o : 1 ≤ x = once in let p : y ≡ x = tied in let q : y ≤ 1 = single in omega (arith, o, p, q))
 
   -- the seat is ready for its next step

@@ -1,5 +1,5 @@
 -- Steps after which one view is another, and the number of seats out may be: a load, the number of seats out, and the beginning and end of a split and a join.
-use Rattle.std.proofs.Common.{◌≡◌, ◌≢◌, ℕ, ◌+◌, ◌-◌, ◌%◌, ◌<◌, ◌≤◌, Bool, true, false, true≢false, eqb-true, List, length, length-set, map, set, get_or, Option, refl, sym, ap, ◌∙◌, subst, arith, mod-eq_of_lt, ⊎_elim}
+use Rattle.std.proofs.Common.{◌≡◌, ◌≢◌, ℕ, ◌+◌, ◌-◌, ◌%◌, ◌<◌, ◌≤◌, true, true≢false, eqb-true, List, length, length-set, map, set, get_or, Option, refl, sym, ap, ◌∙◌, subst, arith, mod-eq_of_lt, ⊎_elim}
 use native.Mathlib.Nat.{add-mod_right}
 use Rattle.std.proofs.lemmas.List.{set-get_or}
 use mathlib.Core.Option.{some, none}
@@ -15,13 +15,10 @@ use Rattle.packet_board.specs.Hands.{flat}
 use Rattle.packet_board.specs.Views.{looked, begun, joined, landed, told_out, in_hands}
 use Rattle.packet_board.specs.Laws.{Homes, Sound, Law, Seen, WasAt, Looks, Counts, Begins, Ends, Bounds, Sees}
 use Rattle.packet_board.specs.Rule.{Kept, Ready, Mine, cells_of, out_of, at_word, saw, counted, began, ended}
-use Rattle.packet_board.proofs.Counts.{below, weigh_set, weigh_at, weigh_two, weigh_beside}
+use Rattle.packet_board.specs.Weights.{below, weigh_set, weigh_at, weigh_beside}
+use Rattle.packet_board.specs.Custody.{only}
 use Rattle.packet_board.proofs.Cells.{cell_there, cells_kept, out_set, out_is}
 use Rattle.packet_board.proofs.Brings.{same_state}
-
-dead : (t : Bool) → one_if t ≡ 0 → t ≡ false
-dead true e = absurd (omega arith)
-dead false e = refl
 
 less_still : (n : ℕ) → n < 18446744073709551616 → n - 1 < 18446744073709551616
 less_still n h = omega arith
@@ -60,11 +57,6 @@ module _ {N : Type 0} where
         (λ p. let a = sound.lonely j u p.1 l in (others j u p.0 p.1 l, a.1, a.2)) (at_set vs id j w u e);
     untouched = λ u e l z. absurd (not_first vs id v w u (λ y e' l' z'. (sound.untouched y e' l' z').one_seat) at t.stepped e l z);
   }
-
-  -- where no seat is out, no other view is live
-  pub only : (k : Layout) (ws : List Word) (out : ℕ) (hs : Homes) (vs : List (View N)) (id : ℕ) (v : View N) (j : ℕ) (w : View N) → Sound k ws out hs vs → get_elem? vs id ≡ some v → v.live ≡ true → out ≡ 0 → j ≢ id → get_elem? vs j ≡ some w → w.live ≡ false
-  only k ws out hs vs id v j w sound at live none_out ne there = let two = weigh_two (λ (z : View N). one_if z.live) vs id j v w at there ne in let c = sound.counted in let l : one_if v.live ≡ 1 = ap one_if live in
-      dead w.live (omega (arith, two, c, l, none_out))
 
   pub seen_of : (holds : Law N) (k : Layout) (s : State (Option Buffer) (View N)) (id : ℕ) (v : View N) → Kept holds k s → get_elem? s.views id ≡ some v → v.live ≡ true → Seen holds k (cells_of s.words) (out_of s.words) s.homes s.views id v
   seen_of holds k s id v kept at live = record { sound = kept.stands.sound; lawful = kept.stands.lawful; seat = at; live = live }

@@ -4,4 +4,8 @@ pub mod Views
 pub mod Laws
 pub mod Rule
 pub mod Seats
+pub mod Weights
+pub mod Holding
+pub mod Custody
+pub mod Opening
 pub mod FreeWords

@@ -1,5 +1,5 @@
 -- Numbers in a seat's hands, and the words of free cells.
-use Rattle.std.proofs.Common.{◌≡◌, ◌≢◌, ℕ, ◌<◌, ◌≤◌, ⊎_elim, Option, Some, refl, sym, ap, ◌∙◌, arith, List}
+use Rattle.std.proofs.Common.{◌≡◌, ◌≢◌, ℕ, ◌<◌, ◌≤◌, ⊎_elim, Option, Some, None, sym, ap, ◌∙◌, arith, List}
 use mathlib.Core.Option.{some, none, some-injective}
 use mathlib.Core.Option as maybe
 use lib.ListN.{get_elem?}
@@ -11,11 +11,13 @@ use Rattle.packet_board.specs.Words.{buffers_of, times, names, in_words, empty, 
 use Rattle.packet_board.specs.Hands.{Held, updated, IsStowed, lookup}
 use Rattle.packet_board.specs.Laws.{Law, Seen, Homes}
 use Rattle.packet_board.specs.Rule.{Ready}
-use Rattle.packet_board.proofs.Counts.{weigh_at, names_self, chosen}
-use Rattle.packet_board.proofs.Slots.{counted_key}
-use Rattle.packet_board.proofs.Brings.{in_no_word, one_buffer}
-use Rattle.packet_board.proofs.Held.{updated_here, updated_twice}
+use Rattle.packet_board.specs.Weights.{weigh_at, names_self}
+use Rattle.packet_board.specs.Holding.{counted_key, same_value, updated_here, updated_twice}
+use Rattle.packet_board.specs.Custody.{in_no_word}
 use Rattle.packet_pool.specs.Laws.{Cells}
+
+pub out_one : (n : ℕ) (h i : Held) → i ≡ updated n (some None) h → i n ≡ some None
+out_one n h i e = ap (λ (f : Held). f n) e ∙ updated_here n (some None) h
 
 pub stowed_in : (n : ℕ) (h i : Held) (y : Buffer) → i ≡ updated n (some (Some y)) h → IsStowed i n
 stowed_in n h i y e = (y, ap (λ (f : Held). f n) e ∙ updated_here n (some (Some y)) h)
@@ -30,11 +32,7 @@ pub twice_updated : (n : ℕ) (a b : maybe.Option (Option Buffer)) (h i j : Held
 twice_updated n a b h i j e f = f ∙ (ap (λ (z : Held). updated n b z) e ∙ updated_twice n b a h)
 
 pub same_content : (n : ℕ) (h i : Held) (y x : Buffer) → i ≡ updated n (some (Some y)) h → i n ≡ some (Some x) → y ≡ x
-same_content n h i y x e is = one_buffer y x (some-injective (Some y) (Some x) (sym (ap (λ (f : Held). f n) e ∙ updated_here n (some (Some y)) h) ∙ is))
-
--- the hands with what they have at a number
-pub updated_same : (n : ℕ) (z : maybe.Option (Option Buffer)) (h : Held) → h n ≡ z → updated n z h ≡ h
-updated_same n z h e = λ i m. chosen n m z (h m) (h m) (λ p. sym e ∙ ap h p) (λ _. refl) i
+same_content n h i y x e is = same_value y x (some-injective (Some y) (Some x) (sym (ap (λ (f : Held). f n) e ∙ updated_here n (some (Some y)) h) ∙ is))
 
 module _ {N : Type 0} where
   -- a number that a seat holds is in its view's hands

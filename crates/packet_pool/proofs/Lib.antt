@@ -1,3 +1,4 @@
+pub mod Results
 pub mod Seen
 pub mod Hands
 pub mod Least

@@ -11,7 +11,7 @@ use Rattle.packet_board.specs.declared.view.View.{View}
 use Rattle.packet_board.specs.Words.{empty, full}
 use Rattle.packet_board.specs.Views.{meeting, looked, exchanged}
 use Rattle.packet_board.specs.Laws.{Law}
-use Rattle.packet_board.proofs.Turns.{only}
+use Rattle.packet_board.specs.Custody.{only}
 use Rattle.packet_pool.specs.Cells.{newest}
 use Rattle.packet_pool.specs.Laws.{Fresh, after_take}
 use Rattle.packet_pool.specs.Packets.{IsSeen, OnlyLooked, AllEmpty, Takes, HasNow, AreEmpty}

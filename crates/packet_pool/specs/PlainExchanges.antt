@@ -14,9 +14,9 @@ use Rattle.packet_board.specs.Words.{names, weigh, in_words, buffers_of}
 use Rattle.packet_board.specs.Hands.{gives_of, takes_of, placed, flat}
 use Rattle.packet_board.specs.Views.{exchanged}
 use Rattle.packet_board.specs.Laws.{Homes, Exchanges, Meets}
-use Rattle.packet_board.proofs.Counts.{weigh_at, weigh_two, weigh_set, below, one_at_most, names_is, names_self}
-use Rattle.packet_board.proofs.Flows.{takes_from, placed_else}
-use Rattle.packet_board.proofs.Brings.{in_no_word}
+use Rattle.packet_board.specs.Weights.{weigh_at, weigh_two, weigh_set, below, one_at_most, names_is, names_self}
+use Rattle.packet_board.specs.Holding.{takes_from, placed_else}
+use Rattle.packet_board.specs.Custody.{in_no_word}
 use Rattle.packet_pool.specs.declared.item.Item.{Item}
 use Rattle.packet_pool.specs.declared.plain.PlainNotes.{PlainNotes}
 use Rattle.packet_pool.specs.Cells.{ready_count, ready_cell, IsReadyCell, item, IsFreeWord, IsReadyWord, Rises}

@@ -14,7 +14,7 @@ use Rattle.packet_board.specs.declared.buffer.Buffer.{Buffer}
 use Rattle.packet_board.specs.declared.view.Met.{Met}
 use Rattle.packet_board.specs.Words.{weigh, empty}
 use Rattle.packet_board.specs.Views.{meeting}
-use Rattle.packet_board.proofs.Counts.{weigh_set, below}
+use Rattle.packet_board.specs.Weights.{weigh_set, below}
 use Rattle.packet_pool.specs.declared.item.Item.{Item}
 use Rattle.packet_pool.specs.Cells.{ready_word, item, Rises, newest}
 use Rattle.packet_pool.specs.Plain.{PlainView, Views, IsPlain, Posting, weight_found, weight_named, weight_in, weight_at, up_to, PlainFresh, PlainUntouched}

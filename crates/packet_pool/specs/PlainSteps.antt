@@ -1,6 +1,6 @@
 -- That each kind of step keeps the plain law.
 use Rattle.std.specs.Prelude.{◌≡◌, ℕ, ◌+◌, ◌<◌, ◌≤◌, ◌⊎◌, true, List, [], ◌∷◌, map, slice_set, Option, Some, None, refl}
-use Rattle.std.proofs.Common.{zero, suc, sym, ap, ◌∙◌, subst, inl, inr, ⊎_elim, true≢false, arith, lt-ltb, le-ltb, if◌then◌else◌}
+use Rattle.std.proofs.Common.{zero, suc, sym, ap, ◌∙◌, subst, inl, inr, ⊎_elim, true≢false, arith}
 use Rattle.atomic_table.proofs.Lists.{set_here, set_else}
 use mathlib.Core.Option.{some, some-injective, some-ne-none}
 use lib.ListN.{get_elem?}
@@ -8,12 +8,12 @@ use Rattle.packet_board.specs.declared.word.Word.{Word}
 use Rattle.packet_board.specs.declared.layout.Layout.{Layout}
 use Rattle.packet_board.specs.declared.buffer.Buffer.{Buffer}
 use Rattle.packet_board.specs.declared.view.Met.{Met}
-use Rattle.packet_board.specs.Words.{weigh, buffers_of, cell_count, first_word, first_cells, empty, full}
+use Rattle.packet_board.specs.Words.{weigh, cell_count, first_word, first_cells, empty}
 use Rattle.packet_board.specs.Views.{looked, begun, settled, newcomer, joined, spent, landed, told_out, opening_view}
 use Rattle.packet_board.specs.Laws.{Opens, Looks, Counts, Begins, Parts, Merges, Ends, Bounds}
-use Rattle.packet_board.proofs.Openings.{first_at}
-use Rattle.packet_board.proofs.Counts.{weigh_more, below}
 use Rattle.packet_board.specs.Hands.{flat}
+use Rattle.packet_board.specs.Weights.{weigh_more, below}
+use Rattle.packet_board.specs.Opening.{first_at, free_word, other_word}
 use Rattle.packet_pool.specs.declared.plain.PlainNotes.{PlainNotes}
 use Rattle.packet_pool.specs.Cells.{ready_count, ready_cell, Rises, newest}
 use Rattle.packet_pool.specs.Laws.{PoolCells}
@@ -23,12 +23,6 @@ use Rattle.packet_pool.specs.PlainParts.{plain_beside, posting_set, posting_more
 one_only : (v x : PlainView) (j : ℕ) → get_elem? (v ∷ []) j ≡ some x → (j ≡ 0) × (v ≡ x)
 one_only v x zero e = (refl, some-injective v x e)
 one_only v x (suc j) e = absurd (some-ne-none x (sym e))
-
-free_word : (k : Layout) (i : ℕ) → i < buffers_of k → first_word k i ≡ full i
-free_word k i h = subst (λ t. (if t then full i else empty) ≡ full i) (sym (lt-ltb i (buffers_of k) h)) refl
-
-other_word : (k : Layout) (i : ℕ) → buffers_of k ≤ i → first_word k i ≡ empty
-other_word k i h = subst (λ t. (if t then full i else empty) ≡ empty) (sym (le-ltb i (buffers_of k) h)) refl
 
 first_of : (k : Layout) (i : ℕ) (w : Word) → i < cell_count k → get_elem? (first_cells k) i ≡ some w → w ≡ first_word k i
 first_of k i w room e = some-injective w (first_word k i) (sym e ∙ first_at k (cell_count k) i room)

@@ -4,7 +4,7 @@ ghost use Rattle.packet_board.specs.Words.{cell_count};
 ghost use Rattle.packet_board.specs.Hands.{HoldsNothing, HoldsOne};
 ghost use Rattle.packet_board.specs.Seats.{view, held, layout_of, IsSeatOf};
 
-use packet_board::{Board, Buffer, Closed, FreeWords, Layout, Seat, StillOut, Word, hand_laws};
+use packet_board::{Board, Buffer, Closed, FreeWords, Layout, Seat, StillOut, Word};
 use std::alloc::{AllocError, Global};
 use std::marker::Brand;
 use std::test::Fail;
@@ -108,7 +108,6 @@ fn put(
     ensures done { IfOk result (λ _. HoldsNothing (held seat.new)) }
     ensures met { IfErr result (λ word. HoldsOne number (held seat.new)) }
 {
-    hand_laws();
     let full = Word {
         tag,
         buffer: Some(number),
@@ -131,7 +130,6 @@ fn sign(board: &Board<FreeWords>, seat: &mut Seat<FreeWords>, number: u16, from:
     ensures seat { IsSeatOf board.now seat.new }
     ensures one { HoldsOne number (held seat.new) }
 {
-    hand_laws();
     let mut buffer = board.unstow(seat, number);
     buffer.from = from;
     buffer.signal = true;

@@ -6,7 +6,7 @@ ghost use Rattle.packet_pool.specs.Cells.{last_order};
 ghost use Rattle.packet_pool.specs.Packets.{board_of, layout_in};
 ghost use Rattle.wire_tests.specs.Moves.{HoldsPacket, SamePoster, PostsBelow};
 
-use packet_board::{Seat, hand_laws};
+use packet_board::Seat;
 use packet_pool::{NoPacket, Packet, PlainLaw, Pool};
 
 /// Takes a packet into empty hands.
@@ -31,7 +31,6 @@ pub(crate) fn give(pool: &Pool<PlainLaw>, seat: &mut Seat<PlainLaw>, packet: Pac
     ensures notes { SamePoster (view seat.old) (view seat.new) }
     ensures empty { HoldsNothing (held seat.new) }
 {
-    hand_laws();
     pool.give(seat, packet);
 }
 
@@ -49,7 +48,6 @@ pub(crate) fn post(
     ensures order { PostsBelow (order + 1) (view seat.new) }
     ensures held { MatchResult result (λ _. HoldsNothing (held seat.new)) (HoldsPacket (layout_in pool.now) (held seat.new)) }
 {
-    hand_laws();
     match pool.post(seat, packet, order) {
         Ok(()) => Ok(()),
         Err(back) => Err(back),

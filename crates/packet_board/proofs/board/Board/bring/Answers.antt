@@ -2,7 +2,7 @@ use Rattle.std.proofs.Common.{arith, sym, ap, subst, ◌∙◌}
 use mathlib.Core.Option.{some}
 use Rattle.packet_board.specs.Rule.{Ready}
 use Rattle.packet_board.proofs.Brings.{inside, brings, ready_front}
-use Rattle.packet_board.proofs.Slots.{counted_key}
+use Rattle.packet_board.specs.Holding.{counted_key}
 use Rattle.packet_board.proofs.board.Board.bring.Goals as goal
 
 pub load-requires : goal.load-requires

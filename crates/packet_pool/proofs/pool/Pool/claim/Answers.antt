@@ -1,21 +1,18 @@
-use Rattle.std.proofs.Common.{ℕ, refl, sym, ap, ◌∙◌, subst, ◌≡◌, ◌<◌, None, Result, Ok, Err, IfOk}
+use Rattle.std.proofs.Common.{ℕ, refl, sym, ap, ◌∙◌, subst, ◌≡◌, ◌<◌, None}
 use mathlib.Core.Option.{some}
 use Rattle.packet_board.specs.Words.{empty}
 use Rattle.packet_board.specs.Hands.{updated, IsUnstowed}
 use Rattle.packet_board.specs.Views.{exchanged}
 use Rattle.packet_board.specs.Seats.{view, held, number}
-use Rattle.packet_board.proofs.Held.{out_one, if_err}
 use Rattle.packet_pool.specs.declared.packet.NoPacket.{NoPacket}
 use Rattle.packet_pool.specs.Cells.{ready_word, item}
 use Rattle.packet_pool.specs.Packets.{layout_in, content}
 use Rattle.packet_pool.specs.Waiting.{Claims, NoneClaimed, AreBehind}
+use Rattle.packet_pool.proofs.Results.{ok_as, err_as}
+use Rattle.packet_pool.proofs.Hands.{out_one}
 use Rattle.packet_pool.proofs.Seen.{is_now, by_exchange}
 use Rattle.packet_pool.proofs.Least.{behind_now}
 use Rattle.packet_pool.proofs.pool.Pool.claim.Goals as goal
-
-ok_as : {A E : Type 0} (r : Result A E) (P Q : A → Type 0) → ((x : A) → P x → Q x) → IfOk r P → IfOk r Q
-ok_as (Ok x) P Q f p = f x p
-ok_as (Err e) P Q f p = p
 
 pub returns-in-None-clause-none_waits : goal.returns-in-None-clause-none_waits
 returns-in-None-clause-none_waits g c = λ alone. (refl, λ cell is. is_now g.L.BoardLaw.holds g.met.L.PoolLaw.fresh _ _ _ _ cell (λ word. word ≡ empty) (c.least_ready.ensures.looked.alone ∙ alone) (c.in-None.ensures.seen cell is))
@@ -50,7 +47,7 @@ returns-in-Some-clause-least g c = λ alone. let x = c.in-Some.chosen in let k =
 
 pub returns-in-Some-clause-none : goal.returns-in-Some-clause-none
 returns-in-Some-clause-none g c = let x = c.in-Some.chosen in let last = view c.least_ready.new.seat in let found = c.in-Some.ensures.found in let k = layout_in c.args.self.now in let v = view c.args.seat.now in let w = view c.claim_seen.new.seat in
-    if_err c.claim_seen.result _ _ (λ why lost. (
+    err_as c.claim_seen.result _ _ (λ why lost. (
       subst (λ (z : NoPacket). NoneClaimed k v w z) (sym lost.1) record {
         order = x.order;
         number = x.number;
@@ -64,4 +61,4 @@ returns-in-Some-clause-none g c = let x = c.in-Some.chosen in let last = view c.
     )) c.claim_seen.ensures.lost
 
 pub returns-in-Some-clause-none_waits : goal.returns-in-Some-clause-none_waits
-returns-in-Some-clause-none_waits g c = λ alone. if_err c.claim_seen.result _ _ (λ why others. absurd (others (is_now g.L.BoardLaw.holds g.met.L.PoolLaw.fresh _ _ _ _ _ _ (c.least_ready.ensures.looked.alone ∙ alone) c.in-Some.ensures.found.seen))) c.claim_seen.ensures.others
+returns-in-Some-clause-none_waits g c = λ alone. err_as c.claim_seen.result _ _ (λ why others. absurd (others (is_now g.L.BoardLaw.holds g.met.L.PoolLaw.fresh _ _ _ _ _ _ (c.least_ready.ensures.looked.alone ∙ alone) c.in-Some.ensures.found.seen))) c.claim_seen.ensures.others

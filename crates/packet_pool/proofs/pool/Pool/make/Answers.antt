@@ -1,7 +1,7 @@
 use Rattle.std.proofs.Common.{refl, ap, ◌∙◌}
 use lib.ListN.{get_elem?}
 use Rattle.packet_board.specs.Words.{cell_count, first_word}
-use Rattle.packet_board.proofs.Openings.{first_at}
+use Rattle.packet_board.specs.Opening.{first_at}
 use Rattle.packet_pool.proofs.pool.Pool.make.Goals as goal
 
 pub returns-clause-free : goal.returns-clause-free

@@ -6,7 +6,8 @@ use Rattle.packet_pool.specs.Cells.{ready_count, HasPacket}
 use Rattle.packet_pool.specs.Laws.{MayPost}
 use Rattle.packet_pool.specs.Packets.{layout_in, OnlyLooked, HasNow}
 use Rattle.packet_pool.specs.Waiting.{Posts, AllFull}
-use Rattle.packet_pool.proofs.Hands.{stowed_in, holds_content, twice_updated, same_content, updated_same}
+use Rattle.packet_board.specs.Holding.{updated_same}
+use Rattle.packet_pool.proofs.Hands.{stowed_in, holds_content, twice_updated, same_content}
 use Rattle.packet_pool.proofs.Seen.{is_now}
 use Rattle.packet_pool.proofs.pool.Pool.post_buffer.Goals as goal
 

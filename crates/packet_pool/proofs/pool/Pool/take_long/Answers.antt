@@ -2,9 +2,9 @@ use Rattle.std.proofs.Common.{subst, sym, ◌<◌, ◌≤◌, arith, ap}
 use Rattle.packet_board.specs.Words.{buffers_of}
 use Rattle.packet_board.specs.Hands.{IsUnstowed}
 use Rattle.packet_board.specs.Seats.{view, held, number}
-use Rattle.packet_board.proofs.Held.{out_one}
 use Rattle.packet_pool.specs.Buffers.{IsEmptied}
 use Rattle.packet_pool.specs.Packets.{layout_in, AreEmpty}
+use Rattle.packet_pool.proofs.Hands.{out_one}
 use Rattle.packet_pool.proofs.Seen.{none_left, none_before}
 use Rattle.packet_pool.proofs.pool.Pool.take_long.Goals as goal
 

@@ -4,9 +4,9 @@ use Rattle.packet_board.specs.Words.{empty}
 use Rattle.packet_board.specs.Hands.{flat}
 use Rattle.packet_board.specs.Views.{exchanged}
 use Rattle.packet_board.specs.Seats.{view, held}
-use Rattle.packet_board.proofs.Held.{if_ok, if_err}
-use Rattle.packet_board.proofs.Brings.{one_buffer}
+use Rattle.packet_board.specs.Holding.{same_value}
 use Rattle.packet_pool.specs.Cells.{IsReadyCell, ready_word, item, HasPacket}
+use Rattle.packet_pool.proofs.Results.{ok_as, err_as}
 use Rattle.packet_pool.proofs.pool.Pool.try_post.Goals as goal
 
 pub exchange-requires-clause-words : goal.exchange-requires-clause-words
@@ -27,8 +27,8 @@ exchange-requires-clause-tells g c = λ ws out hs vs word seen at ne. subst (λ 
 
 pub returns-clause-posted : goal.returns-clause-posted
 returns-clause-posted g c = let v = view c.args.seat.now in let cell = c.args.cell in let n = c.args.number in let order = c.args.order in
-    if_ok c.exchange.result _ _ (λ d y is. let same = one_buffer d.chosen.0 y (sym d.chosen.1 ∙ ap flat is) in
+    ok_as c.exchange.result _ _ (λ _ d y is. let same = same_value d.chosen.0 y (sym d.chosen.1 ∙ ap flat is) in
     d.view_after ∙ ap (λ z. exchanged v cell empty (ready_word order n) z) (d.chosen.2 ∙ ap (λ z. g.L.PoolLaw.with_posted (item order cell z) v.notes) same)) c.exchange.ensures.done
 
 pub returns-clause-full : goal.returns-clause-full
-returns-clause-full g c = if_err c.exchange.result _ _ (λ word m. (m.3, m.4, subst (λ l. HasPacket l word) c.requires.seat.1 m.2)) c.exchange.ensures.met
+returns-clause-full g c = err_as c.exchange.result _ _ (λ word m. (m.3, m.4, subst (λ l. HasPacket l word) c.requires.seat.1 m.2)) c.exchange.ensures.met

@@ -1,4 +1,4 @@
--- How a weight of a list changes where one item does, and how often a number stands in a list of numbers.
+-- Lemmas on weights, for the proofs of a law: how the weight of a list changes where one item does, and how often a number stands in a list of numbers.
 use Rattle.std.proofs.Common.{◌≡◌, ◌≢◌, ℕ, zero, suc, ◌+◌, ◌<◌, ◌≤◌, ◌==◌, eqb, eq-eqb, ne_eqb, eqb-true, Bool, true, false, if◌then◌else◌, List, [], ◌∷◌, ◌++◌, length, set, Option, Some, None, refl, sym, ap, subst, arith}
 use mathlib.Core.Option.{some, some-injective, some-ne-none}
 use mathlib.Core.Logic.{dite}
@@ -17,13 +17,6 @@ module _ {A : Type 0} where
   at_below [] i h = absurd (omega arith)
   at_below (z ∷ zs) zero h = (z, refl)
   at_below (z ∷ zs) (suc i) h = at_below zs i (omega arith)
-
-  -- an item of a longer list is an item of the list, or the last one at the list's length
-  pub at_end : (xs : List A) (y b : A) (j : ℕ) → get_elem? (xs ++ y ∷ []) j ≡ some b → j ≢ length xs → get_elem? xs j ≡ some b
-  at_end [] y b zero e h = absurd (h refl)
-  at_end [] y b (suc j) e h = absurd (some-ne-none b (sym e))
-  at_end (x ∷ xs) y b zero e h = e
-  at_end (x ∷ xs) y b (suc j) e h = at_end xs y b j e (λ p. h (ap suc p))
 
 module _ {A : Type 0} (f : A → ℕ) where
   pub weigh_set : (xs : List A) (i : ℕ) (x y : A) → get_elem? xs i ≡ some x → weigh f (set xs i y) + f x ≡ weigh f xs + f y
