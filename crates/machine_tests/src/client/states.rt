@@ -139,8 +139,13 @@ enum At {
 /// A client whose process has come to this state.
 fn client_at(alloc: Global, at: At) -> Result<Trial, Fail> {
     let mut trial = Trial::new(alloc)?;
+    comes_to(&mut trial, alloc, at)?;
+    Ok(trial)
+}
+
+fn comes_to(trial: &mut Trial, alloc: Global, at: At) -> Result<(), Fail> {
     let start = match at {
-        At::Idle => return Ok(trial),
+        At::Idle => return Ok(()),
         At::Binding => Act::Bind(1),
         _ => Act::LongCall,
     };
@@ -158,7 +163,7 @@ fn client_at(alloc: Global, at: At) -> Result<Trial, Fail> {
     for act in way.into_iter().take(steps_to(at)) {
         trial.sees(alloc, act)?;
     }
-    Ok(trial)
+    Ok(())
 }
 
 /// How many packets come before a state.
@@ -172,11 +177,16 @@ fn steps_to(at: At) -> usize {
     }
 }
 
+/// What is seen of a packet at this state.
+fn seen_at(alloc: Global, at: At, header: Header, data: Data) -> Result<Seen, Fail> {
+    let mut trial = client_at(alloc, at)?;
+    trial.sees(alloc, Act::Take(header, data))
+}
+
 /// Whether the packets are seen so at this state.
 fn has_row(alloc: Global, at: At, row: [Seen; 12]) -> Result<bool, Fail> {
     for (place, (header, data)) in PACKETS.into_iter().enumerate() {
-        let mut trial = client_at(alloc, at)?;
-        if Some(&trial.sees(alloc, Act::Take(header, data))?) != row.get(place) {
+        if Some(&seen_at(alloc, at, header, data)?) != row.get(place) {
             return Ok(false);
         }
     }
@@ -271,17 +281,35 @@ const TICKS: [(At, Seen, u8, Seen); 7] = [
     (At::Binding, Sends(BIND, 10), 7, Seen::BindFails),
 ];
 
+/// Whether it sends this again so often, once in four ticks, then ends so, and is idle and quiet from then on.
+fn ends_so(
+    trial: &mut Trial,
+    alloc: Global,
+    again: Seen,
+    times: u8,
+    end: Seen,
+) -> Result<bool, Fail> {
+    for _ in 0..times {
+        if !fourth_tick_is(trial, alloc, again)? {
+            return Ok(false);
+        }
+    }
+    Ok(
+        fourth_tick_is(trial, alloc, end)?
+            && trial.sees(alloc, Act::Idle(1))? == Seen::Yes
+            && fourth_tick_is(trial, alloc, Seen::Quiet)?,
+    )
+}
+
+fn ends_so_from(alloc: Global, at: At, again: Seen, times: u8, end: Seen) -> Result<bool, Fail> {
+    let mut trial = client_at(alloc, at)?;
+    ends_so(&mut trial, alloc, again, times, end)
+}
+
 #[test]
 fn eight_transmissions_without_an_answer_fail(rt: HostRuntime) -> Result<(), Fail> {
-    let alloc = rt.alloc();
     for (at, again, times, end) in TICKS {
-        let mut trial = client_at(alloc, at)?;
-        for _ in 0..times {
-            assert!(rt; fourth_tick_is(&mut trial, alloc, again)?);
-        }
-        assert!(rt; fourth_tick_is(&mut trial, alloc, end)?);
-        assert!(rt; trial.sees(alloc, Act::Idle(1))? == Seen::Yes);
-        assert!(rt; fourth_tick_is(&mut trial, alloc, Seen::Quiet)?);
+        assert!(rt; ends_so_from(rt.alloc(), at, again, times, end)?);
     }
     Ok(())
 }
@@ -295,25 +323,38 @@ fn arguments(alloc: Global, count: u16) -> Result<Vec<u8>, AllocError> {
     Ok(bytes)
 }
 
-#[test]
-fn a_call_of_three_pieces_is_acknowledged_one_by_one(rt: HostRuntime) -> Result<(), Fail> {
-    let alloc = rt.alloc();
+/// Whether each piece is sent once the one before is acknowledged, with its part of the arguments.
+fn sends_pieces(trial: &mut Trial, alloc: Global) -> Result<bool, Fail> {
     let text = arguments(alloc, 2996)?;
     let pieces = [
         (Act::LongCall, Sends(FIRST, 1440), 0, 1440),
         (Act::Take(ACK_0, Data::Empty), C1, 1440, 2880),
         (Act::Take(ACK_1, Data::Empty), C2, 2880, 3000),
     ];
-    let mut trial = Trial::new(alloc)?;
     for (act, seen, from, to) in pieces {
-        assert!(rt; trial.sees(alloc, act)? == seen);
-        assert!(rt; text.get(from..to) == Some(trial.data.as_slice()));
+        if trial.sees(alloc, act)? != seen || text.get(from..to) != Some(trial.data.as_slice()) {
+            return Ok(false);
+        }
     }
-    assert!(rt; trial.sees(alloc, Act::Take(ACK_2, Data::Empty))? == W);
-    assert!(rt; fourth_tick_is(&mut trial, alloc, Sends(PROBE, 0))?);
-    assert!(rt; trial.sees(alloc, Act::Take(REPLY, Data::Fives))? == SHORT);
-    assert!(rt; trial.sees(alloc, Act::Idle(1))? == Seen::Yes);
-    assert!(rt; trial.sees(alloc, Act::Call(1, 1))? == Sends(NEXT, 0));
+    Ok(true)
+}
+
+/// Whether it waits behind the last acknowledgement, probes, returns, and calls again.
+fn waits_and_returns(trial: &mut Trial, alloc: Global) -> Result<bool, Fail> {
+    Ok(
+        trial.sees(alloc, Act::Take(ACK_2, Data::Empty))? == W
+            && fourth_tick_is(trial, alloc, Sends(PROBE, 0))?
+            && trial.sees(alloc, Act::Take(REPLY, Data::Fives))? == SHORT
+            && trial.sees(alloc, Act::Idle(1))? == Seen::Yes
+            && trial.sees(alloc, Act::Call(1, 1))? == Sends(NEXT, 0),
+    )
+}
+
+#[test]
+fn a_call_of_three_pieces_is_acknowledged_one_by_one(rt: HostRuntime) -> Result<(), Fail> {
+    let mut trial = Trial::new(rt.alloc())?;
+    assert!(rt; sends_pieces(&mut trial, rt.alloc())?);
+    assert!(rt; waits_and_returns(&mut trial, rt.alloc())?);
     Ok(())
 }
 
