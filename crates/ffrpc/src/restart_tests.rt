@@ -3,7 +3,41 @@
 use crate::rows::{Row, first_other};
 
 /// Restarts at each state.
-static RESTARTS: [Row; 5] = [
+static RESTARTS: [Row; 6] = [
+    // Result and call of the life before come to an idle process, to one with a new call open, and to the server.
+    Row {
+        shows: "a client restarts while it is idle",
+        script: b"call 2 1 bump 1\ndeliver 1\nwork 1\nwork 1\nwork 1\nwork 1\ndeliver 2\nsecond 2\nrestart 2\n\
+deliver 2\ncall 2 1 bump 1\ndeliver 2\ndeliver 3\nwork 1\nwork 1\nwork 1\nwork 1\ndeliver 1\nwork 1\n\
+deliver 4\njournal\nend\n",
+        transcript: b"start 2.1 65536\n\
+packet 1 2>1 call 65536/0 -l 4\n\
+ready 1\n\
+worker 1 claims 65536\n\
+worker 1 admits 65536\n\
+worker 1 runs 65536\n\
+worker 1 replies 65536\n\
+packet 2 1>2 result 65536/0 -l 4\n\
+returned 2.1 65536 4:00000001\n\
+second 2\n\
+restarted 2 2\n\
+drop Stale\n\
+start 2.1 131072\n\
+packet 3 2>1 call 131072/0 -l 4\n\
+drop Stale\n\
+ready 3\n\
+worker 1 claims 131072\n\
+worker 1 admits 131072\n\
+worker 1 runs 131072\n\
+worker 1 replies 131072\n\
+packet 4 1>2 result 131072/0 -l 4\n\
+ready 1\n\
+worker 1 drops Older\n\
+returned 2.1 131072 4:00000002\n\
+run 1 2.1 65536 bump 4:00000001 -> 4:00000001\n\
+run 2 2.1 131072 bump 4:00000001 -> 4:00000002\n\
+end runs 2 returned 2 signalled 0 failed 0 refused 0\n",
+    },
     // The call of the new life comes to the server before that of the life before.
     Row {
         shows: "a client restarts while it sends",
