@@ -1,6 +1,6 @@
 //! A process of a client.
 
-ghost use Rattle.std.specs.Prelude.{◌≡◌, ◌≤◌, ◌<◌, ◌+◌, ◌^◌, ◌++◌, ℕ, length, Some, IfOk, IfSome, MatchOption};
+ghost use Rattle.std.specs.Prelude.{◌≡◌, ◌≤◌, ◌<◌, ◌+◌, ◌^◌, ◌++◌, ℕ, length, Some, IfOk, OnErr, OnOk, IfSome, MatchOption};
 ghost use Rattle.lane_checksum.specs.Digests.{digest};
 ghost use Rattle.rpc_header.specs.Spelling.{HasSpelling};
 ghost use Rattle.fragments.specs.Pieces.{last_piece};
@@ -291,7 +291,7 @@ impl ClientLine {
                 Ok(Said::Sends(packet))
             }
             Action::Keep { ack } => {
-                self.kept.extend_from_slice(bytes)?;
+                keep(&mut self.kept, bytes)?;
                 let packet = Outgoing::new(alloc, me, SERVER, ack, &[])?;
                 Ok(Said::Sends(packet))
             }
@@ -372,4 +372,14 @@ impl ClientLine {
         self.arguments.clear();
         self.kept.clear();
     }
+}
+
+/// Keeps a piece of a reply behind those that have come, where there is room for the longest reply, so that none
+/// moves later.
+fn keep(kept: &mut Vec<u8>, piece: &[u8]) -> Result<(), AllocError>
+    ensures added { OnOk result (kept.new.items ≡ kept.old.items ++ piece.now) }
+    ensures unchanged { OnErr result (kept.new.items ≡ kept.old.items) }
+{
+    kept.reserve(LONG.saturating_sub(kept.len()))?;
+    kept.extend_from_slice(piece)
 }

@@ -1,6 +1,6 @@
 //! Packets that have come to a machine.
 
-ghost use Rattle.std.specs.Prelude.{◌≡◌, ◌≤◌, ◌<◌, length, IfOk, MatchResult};
+ghost use Rattle.std.specs.Prelude.{◌≡◌, ◌≤◌, ◌<◌, length, IsTrue, not, IfOk, MatchResult};
 ghost use Rattle.rpc_header.specs.Spelling.{HasSpelling};
 ghost use Rattle.rpc_header.specs.Versions.{fragments_in};
 ghost use Rattle.call_rules.specs.Packet.{fields_of};
@@ -121,10 +121,11 @@ impl Packet {
         })
     }
 
-    /// Its header.
+    /// Its header. A piece of a call's arguments that isn't the last is full.
     pub fn header(&self) -> &Header
         ensures fields { fields_of result.now ≡ self.now.header }
         ensures fragment { result.now.fragment < fragments_in result.now }
+        ensures full { result.now.kind ≡ Kind.Call → IsTrue (not result.now.last) → length self.now.payload ≡ MAX_DATA }
     {
         &self.header
     }

@@ -1,3 +1,4 @@
+pub mod Adding
+pub mod Outcomes
 pub mod Rows
 pub mod Served
-pub mod Outcomes

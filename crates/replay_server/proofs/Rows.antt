@@ -1,16 +1,17 @@
 -- Steps that are rows' steps.
-use Rattle.std.proofs.Common.{◌≡◌, ℕ, ◌≤◌, ◌<◌, List, ◌++◌, Option, Bool, true, false, ap, sym, subst, ◌∙◌, refl}
+use Rattle.std.proofs.Common.{◌≡◌, ℕ, ◌+◌, ◌<◌, ◌==◌, List, ◌++◌, Option, Bool, true, false, ap, sym, subst, ◌∙◌, refl, arith}
 use Rattle.std.specs.Prelude.{unwrap_or}
-use Rattle.std.proofs.lemmas.Bool.{cond-true, cond-false, le-ltb, lt-ltb}
+use Rattle.std.proofs.lemmas.Bool.{cond-true, cond-false, eq-eqb, le-ltb, lt-ltb}
+use Rattle.std.proofs.lemmas.Bool.Decides.{nat_tests}
 use Rattle.rpc_header.specs.declared.Kind.{Kind}
 use Rattle.call_rules.specs.Packet.{Packet}
-use Rattle.call_rules.specs.Entry.{Entry, Gather, Word, word_of, is_same_word, judge}
+use Rattle.call_rules.specs.Entry.{Entry, Gather, Filling, Word, word_of, is_same_word, judge}
 use Rattle.call_rules.specs.declared.entry.Judged.{Judged}
 use Rattle.call_rules.specs.declared.worker.Did.{Did}
 use Rattle.call_rules.specs.declared.worker.Did.TheVariants as did
 use Rattle.call_rules.specs.declared.worker.Unfit.{Unfit}
 use Rattle.call_rules.specs.declared.worker.Unfit.TheVariants as unfit
-use Rattle.call_rules.specs.Worker.{Asked, admits, on_due, drops, on_idle, on_kind, on_claimed, on_judged_claim}
+use Rattle.call_rules.specs.Worker.{Asked, admits, drops, on_idle, on_kind, on_claimed, on_judged_claim, on_took}
 use Rattle.call_rules.specs.Worker as rules
 use Rattle.replay_server.specs.Rules.{Keeps, Exchanges}
 use Rattle.replay_server.specs.Stepped.{StandsFor}
@@ -51,11 +52,6 @@ unfolding on_claimed
 claim_judged long p seen e j same h =
     ap (λ (x : Judged). on_judged_claim x long p e) h ∙ sym (cond-true _ _ _ same)
 
--- the row of the piece that is due and is the last
-pub due_last : (p : Packet) (n : ℕ) (bytes payload whole : List ℕ) (next : ℕ) → p.header.last ≡ true → payload ≡ p.payload → whole ≡ bytes ++ payload → admits p whole ≡ on_due p n bytes next
-due_last p n bytes payload whole next last same added =
-    ap (λ (xs : List ℕ). admits p xs) (added ∙ ap (λ (xs : List ℕ). bytes ++ xs) same) ∙ sym (cond-true _ _ _ last)
-
 -- the entry is exchanged, and the packet is dropped
 pub exchanges_dropped : (p : Packet) (why : Unfit) (e old new : Entry) (step : Step) → new ≡ e → worker_after p step.next ≡ rules.Resting → step.did ≡ did.Drops why → step.adds ≡ added.Nothing → Exchanges p (rules.exchanges rules.Resting e (did.Drops why)) old new step
 exchanges_dropped p why e old new step entry worker what nothing =
@@ -66,9 +62,36 @@ pub exchanges_sent : (p sent answer : Packet) (what : Did) (e old new : Entry) (
 exchanges_sent p sent answer what e old new step entry worker did sends is =
     record { worker = worker; entry = entry; did = did; adds = subst (λ (a : Adds). StandsFor a (rules.APacket answer)) (sym sends) (ap (λ (x : Packet). rules.APacket x) (sym is)) }
 
--- the row of a piece that was gathered before, and of one that isn't due yet
-pub other_again : (p : Packet) (n : ℕ) (bytes : List ℕ) (next : ℕ) → p.header.fragment < next → rules.exchanges_and_sends (Gather n bytes next) did.Rests (rules.ack_packet p) ≡ rules.on_other p n bytes next
-other_again p n bytes next h = sym (cond-true _ _ _ (lt-ltb p.header.fragment next h))
+-- The row of a worker that adds its packet's piece: of the last piece, of another that is due, of one that was gathered
+-- before, and of one that isn't due yet.
+pub took_whole : (p : Packet) (n : ℕ) (bytes whole : List ℕ) (next : ℕ) → p.header.fragment ≡ next → p.header.last ≡ true → whole ≡ bytes ++ p.payload → admits p whole ≡ on_took p (Filling n bytes next)
+unfolding on_took
+took_whole p n bytes whole next due last added =
+    ap (λ (xs : List ℕ). admits p xs) added
+    ∙ (sym (cond-true _ _ _ last) ∙ sym (cond-true (p.header.fragment == next) (rules.on_due p n bytes next) (rules.on_other p n bytes next) (eq-eqb _ _ due)))
 
-pub other_skipped : (p : Packet) (n : ℕ) (bytes : List ℕ) (next : ℕ) → next ≤ p.header.fragment → rules.exchanges rules.Resting (Gather n bytes next) (did.Drops unfit.Skipped) ≡ rules.on_other p n bytes next
-other_skipped p n bytes next h = sym (cond-false _ _ _ (le-ltb p.header.fragment next h))
+pub took_more : (p : Packet) (n : ℕ) (bytes more : List ℕ) (next after : ℕ) → p.header.fragment ≡ next → p.header.last ≡ false → more ≡ bytes ++ p.payload → after ≡ next + 1 → rules.exchanges_and_sends (Gather n more after) did.Rests (rules.ack_packet p) ≡ on_took p (Filling n bytes next)
+unfolding on_took
+took_more p n bytes more next after due last added counted =
+    ap (λ (xs : List ℕ). rules.exchanges_and_sends (Gather n xs after) did.Rests (rules.ack_packet p)) added
+    ∙ (ap (λ (k : ℕ). rules.exchanges_and_sends (Gather n (bytes ++ p.payload) k) did.Rests (rules.ack_packet p)) counted
+    ∙ (sym (cond-false _ _ _ last) ∙ sym (cond-true (p.header.fragment == next) (rules.on_due p n bytes next) (rules.on_other p n bytes next) (eq-eqb _ _ due))))
+
+is_other : (a b : ℕ) → ¬ (a ≡ b) → (a == b) ≡ false
+is_other a b other = grind (arith, nat_tests)
+
+pub took_again : (p : Packet) (n : ℕ) (bytes same : List ℕ) (next kept : ℕ) → p.header.fragment < next → same ≡ bytes → kept ≡ next → rules.exchanges_and_sends (Gather n same kept) did.Rests (rules.ack_packet p) ≡ on_took p (Filling n bytes next)
+unfolding on_took
+took_again p n bytes same next kept past is still =
+    ap (λ (xs : List ℕ). rules.exchanges_and_sends (Gather n xs kept) did.Rests (rules.ack_packet p)) is
+    ∙ (ap (λ (k : ℕ). rules.exchanges_and_sends (Gather n bytes k) did.Rests (rules.ack_packet p)) still
+    ∙ (sym (cond-true _ _ _ (lt-ltb p.header.fragment next past))
+    ∙ sym (cond-false (p.header.fragment == next) (rules.on_due p n bytes next) (rules.on_other p n bytes next) (is_other p.header.fragment next (λ e. absurd (omega (arith, e, past)))))))
+
+pub took_skipped : (p : Packet) (n : ℕ) (bytes same : List ℕ) (next kept : ℕ) → next < p.header.fragment → same ≡ bytes → kept ≡ next → rules.exchanges rules.Resting (Gather n same kept) (did.Drops unfit.Skipped) ≡ on_took p (Filling n bytes next)
+unfolding on_took
+took_skipped p n bytes same next kept ahead is still =
+    ap (λ (xs : List ℕ). rules.exchanges rules.Resting (Gather n xs kept) (did.Drops unfit.Skipped)) is
+    ∙ (ap (λ (k : ℕ). rules.exchanges rules.Resting (Gather n bytes k) (did.Drops unfit.Skipped)) still
+    ∙ (sym (cond-false _ _ _ (le-ltb p.header.fragment next (omega arith)))
+    ∙ sym (cond-false (p.header.fragment == next) (rules.on_due p n bytes next) (rules.on_other p n bytes next) (is_other p.header.fragment next (λ e. absurd (omega (arith, e, ahead)))))))

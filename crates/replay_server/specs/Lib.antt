@@ -4,4 +4,5 @@ pub mod Lives
 pub mod Rules
 pub mod Service
 pub mod Stepped
+pub mod Texts
 pub mod Worker

@@ -3,7 +3,7 @@
 ghost use Rattle.std.specs.Prelude.{◌≡◌, ◌≤◌, length};
 ghost use Rattle.fragments.specs.declared.limits.TheConstants.{LONG};
 
-use crate::texts::{Answer, Gathering};
+use crate::texts::{Answer, Whole};
 use call_rules::Seen;
 use replay_packets::Packet;
 
@@ -13,7 +13,7 @@ pub enum Arguments {
     /// In its only packet, the carrier.
     Carried,
     /// Gathered from its pieces.
-    Gathered(Gathering),
+    Gathered(Whole),
 }
 
 /// What a worker is to do next with its carrier.
@@ -21,7 +21,7 @@ pub enum Arguments {
 pub enum Stage {
     /// It has seen this of the entry when it claimed the packet.
     Claimed(Seen),
-    /// It has what is gathered of the call in hand.
+    /// It has what is gathered of the call in hand; its packet is a Call.
     Took,
     /// The entry runs the call, whose body is to run.
     Admitted(Arguments),
@@ -41,7 +41,7 @@ impl Arguments {
     {
         match self {
             Arguments::Carried => carrier.payload(),
-            Arguments::Gathered(pieces) => pieces.bytes.as_slice(),
+            Arguments::Gathered(whole) => whole.bytes(),
         }
     }
 }

@@ -1,25 +1,26 @@
 //! The steps of workers that hold a packet: for what a worker is to do next, and the entry of its packet's activity,
 //! what it did. Each function is the rows of its name.
 
-ghost use Rattle.std.specs.Prelude.{◌≡◌, ◌<◌, IfOk, OnOk};
-ghost use Rattle.fragments.specs.declared.limits.TheConstants.{PIECES};
-ghost use Rattle.call_rules.specs.Entry.{Entry, word_seen};
+ghost use Rattle.std.specs.Prelude.{◌≡◌, length, IfOk, OnOk};
+ghost use Rattle.fragments.specs.declared.limits.TheConstants.{PIECE};
+ghost use Rattle.call_rules.specs.Entry.{Entry, Filling, Gather, word_seen};
 ghost use Rattle.call_rules.specs.Worker as rules;
 ghost use Rattle.replay_model.specs.Service.{served};
 ghost use Rattle.replay_model.specs.World.{has_buffer};
 ghost use Rattle.replay_server.specs.Rules.{Keeps, Exchanges, row_at, total_at};
 ghost use Rattle.replay_server.specs.Entry.{entry_of};
 ghost use Rattle.replay_server.specs.Service.{answer_of};
-ghost use Rattle.replay_server.specs.Worker.{arguments_in, worker_after};
+ghost use Rattle.replay_server.specs.Texts.{gathered_in};
+ghost use Rattle.replay_server.specs.Worker.{arguments_in, worker_after, worker_at, CanAdd, IsFullPiece};
 
 use crate::answers::{ack, reply_piece};
 use crate::entry::{Entry, EntryState};
 use crate::service::serve;
 use crate::stage::{Arguments, Stage};
 use crate::step::{Adds, Step, drops, rests};
-use crate::texts::{Answer, Gathering};
+use crate::texts::{Answer, Gathering, Whole};
 use call_rules::{Did, Judged, Seen, Unfit, judge};
-use fragments::count;
+use fragments::{Pushed, count};
 use replay_model::RunLine;
 use replay_packets::Packet;
 use rpc_header::{CallNumber, Header, Kind};
@@ -33,6 +34,7 @@ pub fn on_task(
     stage: Stage,
     entry: &mut Entry,
 ) -> Result<Step, AllocError>
+    requires { CanAdd (worker_at carrier.now stage) }
     ensures step { IfOk result (Exchanges carrier.now (row_at carrier.now stage total.old entry.old) entry.old entry.new) }
     ensures total { OnOk result (total.new ≡ total_at carrier.now stage total.old) }
 {
@@ -67,6 +69,7 @@ fn on_judged_claim(
     carrier: &Packet,
     entry: &mut Entry,
 ) -> Result<Step, AllocError>
+    requires { judged ≡ Judged.Begin → length carrier.now.payload ≡ PIECE }
     ensures { IfOk result (Exchanges carrier.now (rules.on_judged_claim judged has_buffer carrier.now entry.old) entry.old entry.new) }
 {
     match judged {
@@ -98,6 +101,7 @@ fn admits(carrier: &Packet, arguments: Arguments, entry: &mut Entry) -> Step
 
 /// Begin: piece 0 is kept.
 fn on_begin(alloc: Global, carrier: &Packet, entry: &mut Entry) -> Result<Step, AllocError>
+    requires { length carrier.now.payload ≡ PIECE }
     ensures { IfOk result (Exchanges carrier.now (rules.on_begin has_buffer carrier.now) entry.old entry.new) }
 {
     let number = carrier.header().call.number;
@@ -141,61 +145,65 @@ fn on_fetch(carrier: &Packet, entry: &mut Entry) -> Step
     }
 }
 
-/// Took: the carrier's piece is compared with the one that is due.
+/// Took: the carrier's piece is added to what is gathered, where it is the one that is due.
 #[tactic(auto, unfolding(call_rules::specs::Worker::on_took))]
 fn on_took(alloc: Global, carrier: &Packet, entry: &mut Entry) -> Result<Step, AllocError>
+    requires { IsFullPiece carrier.now }
     ensures { IfOk result (Exchanges carrier.now (rules.on_took carrier.now entry.old) entry.old entry.new) }
 {
     match entry.take() {
-        EntryState::Filling { number, pieces } => {
-            if carrier.header().fragment == pieces.next {
-                on_due(alloc, carrier, number, pieces, entry)
-            } else {
-                on_other(alloc, carrier, number, pieces, entry)
-            }
-        }
+        EntryState::Filling { number, pieces } => on_piece(alloc, carrier, number, pieces, entry),
         other => Ok(loses(other, entry)),
     }
 }
 
-/// The piece that is due: the last makes the call whole, and another is acknowledged.
-fn on_due(
-    alloc: Global,
-    carrier: &Packet,
-    number: CallNumber,
-    mut pieces: Gathering,
-    entry: &mut Entry,
-) -> Result<Step, AllocError>
-    requires { pieces.next < PIECES }
-    ensures { IfOk result (λ step. (old : Entry)
-        → Exchanges carrier.now (rules.on_due carrier.now number.value pieces.bytes.items pieces.next) old entry.new step) }
-{
-    pieces.push(carrier.payload())?;
-    if carrier.header().last {
-        return Ok(admits(carrier, Arguments::Gathered(pieces), entry));
-    }
-    let answer = ack(alloc, carrier)?;
-    *entry = Entry::new(EntryState::Gather { number, pieces });
-    Ok(rests(Did::Rests, Adds::Packet(answer)))
-}
-
-/// Another piece: one that was gathered is acknowledged again.
-fn on_other(
+/// The last piece makes the call whole. Another that is due, or that was gathered before, is acknowledged.
+fn on_piece(
     alloc: Global,
     carrier: &Packet,
     number: CallNumber,
     pieces: Gathering,
     entry: &mut Entry,
 ) -> Result<Step, AllocError>
-    ensures { IfOk result (λ step. (old : Entry)
-        → Exchanges carrier.now (rules.on_other carrier.now number.value pieces.bytes.items pieces.next) old entry.new step) }
+    requires { IsFullPiece carrier.now }
+    ensures { IfOk result (λ step. (old : Entry) → Exchanges carrier.now
+        (rules.on_took carrier.now (Filling number.value (gathered_in pieces) pieces.gathered.next)) old entry.new step) }
 {
-    let is_again = carrier.header().fragment < pieces.next;
-    *entry = Entry::new(EntryState::Gather { number, pieces });
-    if !is_again {
-        return Ok(drops(Unfit::Skipped));
+    let Gathering {
+        mut text,
+        mut gathered,
+    } = pieces;
+    let Header { fragment, last, .. } = *carrier.header();
+    match gathered.push(text.as_mut_slice(), fragment, last, carrier.payload()) {
+        Pushed::Whole(len) => {
+            let whole = Whole { text, len };
+            Ok(admits(carrier, Arguments::Gathered(whole), entry))
+        }
+        Pushed::More | Pushed::Again => {
+            let pieces = Gathering { text, gathered };
+            rests_gathering(alloc, carrier, number, pieces, entry)
+        }
+        Pushed::Skipped => {
+            let pieces = Gathering { text, gathered };
+            *entry = Entry::new(EntryState::Gather { number, pieces });
+            Ok(drops(Unfit::Skipped))
+        }
     }
+}
+
+/// What is gathered goes back to the entry, and the piece is acknowledged.
+fn rests_gathering(
+    alloc: Global,
+    carrier: &Packet,
+    number: CallNumber,
+    pieces: Gathering,
+    entry: &mut Entry,
+) -> Result<Step, AllocError>
+    ensures { IfOk result (λ step. (old : Entry) → Exchanges carrier.now
+        (rules.exchanges_and_sends (Gather number.value (gathered_in pieces) pieces.gathered.next) Did.Rests (rules.ack_packet carrier.now)) old entry.new step) }
+{
     let answer = ack(alloc, carrier)?;
+    *entry = Entry::new(EntryState::Gather { number, pieces });
     Ok(rests(Did::Rests, Adds::Packet(answer)))
 }
 

@@ -5,7 +5,7 @@ ghost use Rattle.call_rules.specs.Packet.{Packet};
 ghost use Rattle.call_rules.specs.Worker as rules;
 ghost use Rattle.replay_server.specs.GoesOn.{ExchangesIn, row_over};
 ghost use Rattle.replay_server.specs.Rules.{total_at};
-ghost use Rattle.replay_server.specs.Worker.{worker_after, worker_of};
+ghost use Rattle.replay_server.specs.Worker.{worker_after, worker_at, worker_of, CanAdd};
 
 use crate::entry::{Entry, place_in};
 use crate::stage::Stage;
@@ -27,11 +27,13 @@ pub struct Worker {
 
 impl Model for Worker {
     ghost use Rattle.call_rules.specs.Worker.{Worker};
-    ghost use Rattle.replay_server.specs.Worker.{worker_of};
+    ghost use Rattle.replay_server.specs.Worker.{worker_of, CanAdd};
 
     ghost Value = { Worker };
 
     ghost view = { λ w. worker_of w.carrier w.stage };
+
+    ghost invariant = { λ w. CanAdd (worker_of w.carrier w.stage) };
 }
 
 impl Worker {
@@ -43,12 +45,13 @@ impl Worker {
     {
         Worker {
             carrier: None,
-            stage: Stage::Took,
+            stage: Stage::Fetched,
         }
     }
 
     /// The worker that has taken a packet, and is to do this next with it, or gives it back.
     pub fn after(packet: Packet, next: Option<Stage>) -> Self
+        requires { CanAdd (worker_after packet next) }
         ensures { result ≡ worker_after packet next }
     {
         match next {
@@ -74,7 +77,7 @@ impl Worker {
             return Ok(None);
         };
         let number = carrier.header().call.number;
-        let stage = mem::replace(&mut self.stage, Stage::Took);
+        let stage = mem::replace(&mut self.stage, Stage::Fetched);
         let Step { next, did, adds } = on_entries(alloc, total, carrier, stage, entries)?;
         settle(&mut self.carrier, &mut self.stage, next);
         Ok(Some(Stepped { number, did, adds }))
@@ -99,6 +102,7 @@ fn on_entries(
     stage: Stage,
     entries: &mut Vec<Entry>,
 ) -> Result<Step, AllocError>
+    requires { CanAdd (worker_at carrier.now stage) }
     ensures step { IfOk result (ExchangesIn carrier.now (row_over carrier.now stage total.old entries.old.items) entries.old.items entries.new.items) }
     ensures total { OnOk result (total.new ≡ total_at carrier.now stage total.old) }
 {

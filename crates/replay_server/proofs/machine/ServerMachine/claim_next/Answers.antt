@@ -1,8 +1,13 @@
-use Rattle.std.proofs.Common.{◌+◌, ap, set, ◌∙◌}
+use Rattle.std.proofs.Common.{◌+◌, ap, set, sym, subst, ◌∙◌}
 use Rattle.call_rules.specs.Packet.{Fields}
 use Rattle.call_rules.specs.Worker.{Worker}
+use Rattle.replay_server.specs.Worker.{CanAdd}
+use Rattle.replay_server.proofs.Adding.{can_idle}
 use Rattle.replay_server.proofs.Served.{claims, claims_none}
 use Rattle.replay_server.proofs.machine.ServerMachine.claim_next.Goals as goal
+
+pub after-requires : goal.after-requires
+after-requires c = subst (λ (x : Worker). CanAdd x) (sym c.in_ok-step.ensures.worker) (can_idle _ _ _)
 
 pub returns-in_default-clause-outcome : goal.returns-in_default-clause-outcome
 returns-in_default-clause-outcome c w =
