@@ -145,30 +145,50 @@ fn a_packet_of_another_kind_or_call_is_dropped(rt: HostRuntime) -> Result<(), Fa
     Ok(())
 }
 
+/// Why a machine drops a frame, if it does.
+fn dropped(me: Station, frame: &[u8]) -> Option<Discard> {
+    arrive(me, frame).err()
+}
+
 #[test]
 fn a_frame_or_a_header_with_a_fault_is_dropped(rt: HostRuntime) {
-    let flipped = arrive(CLIENT, &EMPTY_CALL).err();
-    assert!(rt; flipped == Some(Discard::Frame(FrameFault::NotForUs)));
+    assert!(rt; dropped(CLIENT, &EMPTY_CALL) == Some(Discard::Frame(FrameFault::NotForUs)));
     // A header that lacks its last byte.
     let mut short = [0; 73];
     short[HEADERS_LEN..].copy_from_slice(&EMPTY_CALL[HEADERS_LEN..73]);
     write_headers(&mut short, CLIENT, SERVER, 31);
-    assert!(rt; arrive(SERVER, &short).err() == Some(Discard::Header(HeaderFault::Short)));
+    assert!(rt; dropped(SERVER, &short) == Some(Discard::Header(HeaderFault::Short)));
+}
+
+/// The frame of the empty call with one bit flipped, or `None` where it has no such bit.
+fn flipped(alloc: Global, bit: u16) -> Result<Option<Vec<u8>>, Fail> {
+    let sent = packet(alloc, (CLIENT, SERVER), Kind::Call, CLIENT, 0, &[])?.sent();
+    Ok(sent.damaged(alloc, bit)?)
+}
+
+/// Whether the flip of a bit makes this frame of it.
+fn flips_to(alloc: Global, bit: u16, frame: &[u8]) -> Result<bool, Fail> {
+    match flipped(alloc, bit)? {
+        Some(flipped) => Ok(flipped.as_slice() == frame),
+        None => Ok(false),
+    }
+}
+
+fn has_bit(alloc: Global, bit: u16) -> Result<bool, Fail> {
+    Ok(flipped(alloc, bit)?.is_some())
 }
 
 #[test]
 fn one_bit_of_a_frame_is_flipped(rt: HostRuntime) -> Result<(), Fail> {
     let alloc = rt.alloc();
-    let sent = packet(alloc, (CLIENT, SERVER), Kind::Call, CLIENT, 0, &[])?.sent();
-    let first = sent.damaged(alloc, 0)?.ok_or("bit 0")?;
-    let last = sent.damaged(alloc, 591)?.ok_or("bit 591")?;
-    let behind = sent.damaged(alloc, 592)?;
-    let far_behind = sent.damaged(alloc, u16::MAX)?;
-    assert!(rt; [first.first(), last.last()] == [Some(&0x82), Some(&0x01)]);
-    let same = [EMPTY_CALL.get(1..), EMPTY_CALL.get(..73)];
-    assert!(rt; [first.get(1..), last.get(..73)] == same);
-    assert!(rt; arrive(SERVER, &last).err() == Some(Discard::Frame(FrameFault::UdpChecksum)));
-    assert!(rt; [behind.is_none(), far_behind.is_none()] == [true; 2]);
+    let mut first = EMPTY_CALL;
+    first[0] = 0x82;
+    assert!(rt; flips_to(alloc, 0, &first)?);
+    let mut last = EMPTY_CALL;
+    last[73] = 0x01;
+    assert!(rt; flips_to(alloc, 591, &last)?);
+    assert!(rt; dropped(SERVER, &last) == Some(Discard::Frame(FrameFault::UdpChecksum)));
+    assert!(rt; !has_bit(alloc, 592)? && !has_bit(alloc, u16::MAX)?);
     Ok(())
 }
 

@@ -1,6 +1,6 @@
 //! What process 1 of machine 2, a client, tells by its state and what comes; a call and a reply of three pieces each.
 
-use super::trial::{Act, BIND, CALL, Data, PROCESS_1, Seen, Trial};
+use super::trial::{Act, BIND, CALL, Data, PROCESS_1, Seen, Trial, goes_on};
 use Seen::{Bound as B, NotBound as N, Sends, Stale as S, Unused as U, Waits as W};
 use lane_checksum::Digest;
 use replay_client::Cause;
@@ -144,36 +144,40 @@ fn client_at(alloc: Global, at: At) -> Result<Trial, Fail> {
 }
 
 fn comes_to(trial: &mut Trial, alloc: Global, at: At) -> Result<(), Fail> {
-    let start = match at {
-        At::Idle => return Ok(()),
-        At::Binding => Act::Bind(1),
-        _ => Act::LongCall,
-    };
-    trial.sees(alloc, start)?;
-    let third = match at {
-        At::Waiting => Act::Take(ACK_2, Data::Empty),
-        _ => Act::Take(PIECE_0, Data::Ones),
-    };
-    let way = [
-        Act::Take(ACK_0, Data::Empty),
-        Act::Take(ACK_1, Data::Empty),
-        third,
-        Act::Take(PIECE_1, Data::Ones),
-    ];
-    for act in way.into_iter().take(steps_to(at)) {
+    for act in way_to(at).into_iter().take(steps_to(at)) {
         trial.sees(alloc, act)?;
     }
     Ok(())
 }
 
-/// How many packets come before a state.
+/// The way to a state, which is as long as `steps_to` says.
+fn way_to(at: At) -> [Act; 5] {
+    [
+        if at == At::Binding {
+            Act::Bind(1)
+        } else {
+            Act::LongCall
+        },
+        Act::Take(ACK_0, Data::Empty),
+        Act::Take(ACK_1, Data::Empty),
+        if at == At::Waiting {
+            Act::Take(ACK_2, Data::Empty)
+        } else {
+            Act::Take(PIECE_0, Data::Ones)
+        },
+        Act::Take(PIECE_1, Data::Ones),
+    ]
+}
+
+/// How many acts come before a state.
 fn steps_to(at: At) -> usize {
     match at {
-        At::Idle | At::Sending0 | At::Binding => 0,
-        At::Sending1 => 1,
-        At::Sending2 => 2,
-        At::Waiting | At::Receiving1 => 3,
-        At::Receiving2 => 4,
+        At::Idle => 0,
+        At::Sending0 | At::Binding => 1,
+        At::Sending1 => 2,
+        At::Sending2 => 3,
+        At::Waiting | At::Receiving1 => 4,
+        At::Receiving2 => 5,
     }
 }
 
@@ -185,8 +189,8 @@ fn seen_at(alloc: Global, at: At, header: Header, data: Data) -> Result<Seen, Fa
 
 /// Whether the packets are seen so at this state.
 fn has_row(alloc: Global, at: At, row: [Seen; 12]) -> Result<bool, Fail> {
-    for (place, (header, data)) in PACKETS.into_iter().enumerate() {
-        if Some(&seen_at(alloc, at, header, data)?) != row.get(place) {
+    for ((header, data), seen) in PACKETS.into_iter().zip(row) {
+        if seen_at(alloc, at, header, data)? != seen {
             return Ok(false);
         }
     }
@@ -281,29 +285,36 @@ const TICKS: [(At, Seen, u8, Seen); 7] = [
     (At::Binding, Sends(BIND, 10), 7, Seen::BindFails),
 ];
 
-/// Whether it sends this again so often, once in four ticks, then ends so, and is idle and quiet from then on.
-fn ends_so(
-    trial: &mut Trial,
-    alloc: Global,
-    again: Seen,
-    times: u8,
-    end: Seen,
-) -> Result<bool, Fail> {
+/// Whether it sends this again so often, once in four ticks.
+fn sends_again(trial: &mut Trial, alloc: Global, again: Seen, times: u8) -> Result<bool, Fail> {
     for _ in 0..times {
         if !fourth_tick_is(trial, alloc, again)? {
             return Ok(false);
         }
     }
-    Ok(
-        fourth_tick_is(trial, alloc, end)?
-            && trial.sees(alloc, Act::Idle(1))? == Seen::Yes
-            && fourth_tick_is(trial, alloc, Seen::Quiet)?,
-    )
+    Ok(true)
 }
 
+/// Whether it ends so at the fourth tick, and is idle and quiet from then on.
+fn ends_so(trial: &mut Trial, alloc: Global, end: Seen) -> Result<bool, Fail> {
+    let lines = [
+        (Act::Tick(1), Seen::Quiet),
+        (Act::Tick(1), Seen::Quiet),
+        (Act::Tick(1), Seen::Quiet),
+        (Act::Tick(1), end),
+        (Act::Idle(1), Seen::Yes),
+        (Act::Tick(1), Seen::Quiet),
+        (Act::Tick(1), Seen::Quiet),
+        (Act::Tick(1), Seen::Quiet),
+        (Act::Tick(1), Seen::Quiet),
+    ];
+    goes_on(trial, alloc, lines)
+}
+
+/// Whether both are so of a client that has come to this state.
 fn ends_so_from(alloc: Global, at: At, again: Seen, times: u8, end: Seen) -> Result<bool, Fail> {
     let mut trial = client_at(alloc, at)?;
-    ends_so(&mut trial, alloc, again, times, end)
+    Ok(sends_again(&mut trial, alloc, again, times)? && ends_so(&mut trial, alloc, end)?)
 }
 
 #[test]
@@ -339,22 +350,23 @@ fn sends_pieces(trial: &mut Trial, alloc: Global) -> Result<bool, Fail> {
     Ok(true)
 }
 
-/// Whether it waits behind the last acknowledgement, probes, returns, and calls again.
-fn waits_and_returns(trial: &mut Trial, alloc: Global) -> Result<bool, Fail> {
-    Ok(
-        trial.sees(alloc, Act::Take(ACK_2, Data::Empty))? == W
-            && fourth_tick_is(trial, alloc, Sends(PROBE, 0))?
-            && trial.sees(alloc, Act::Take(REPLY, Data::Fives))? == SHORT
-            && trial.sees(alloc, Act::Idle(1))? == Seen::Yes
-            && trial.sees(alloc, Act::Call(1, 1))? == Sends(NEXT, 0),
-    )
-}
+/// It waits behind the last acknowledgement, probes, returns, and calls again.
+const RETURNS: [(Act, Seen); 8] = [
+    (Act::Take(ACK_2, Data::Empty), W),
+    (Act::Tick(1), Seen::Quiet),
+    (Act::Tick(1), Seen::Quiet),
+    (Act::Tick(1), Seen::Quiet),
+    (Act::Tick(1), Sends(PROBE, 0)),
+    (Act::Take(REPLY, Data::Fives), SHORT),
+    (Act::Idle(1), Seen::Yes),
+    (Act::Call(1, 1), Sends(NEXT, 0)),
+];
 
 #[test]
 fn a_call_of_three_pieces_is_acknowledged_one_by_one(rt: HostRuntime) -> Result<(), Fail> {
     let mut trial = Trial::new(rt.alloc())?;
     assert!(rt; sends_pieces(&mut trial, rt.alloc())?);
-    assert!(rt; waits_and_returns(&mut trial, rt.alloc())?);
+    assert!(rt; goes_on(&mut trial, rt.alloc(), RETURNS)?);
     Ok(())
 }
 

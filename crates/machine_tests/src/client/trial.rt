@@ -280,13 +280,22 @@ fn answer(is_so: bool) -> Seen {
     if is_so { Seen::Yes } else { Seen::No }
 }
 
-/// Whether a client that boots sees these, one after the other.
-pub fn plays<const LINES: usize>(alloc: Global, lines: [(Act, Seen); LINES]) -> Result<bool, Fail> {
-    let mut trial = Trial::new(alloc)?;
+/// Whether a client sees these, one after the other.
+pub fn goes_on<const LINES: usize>(
+    trial: &mut Trial,
+    alloc: Global,
+    lines: [(Act, Seen); LINES],
+) -> Result<bool, Fail> {
     for (act, seen) in lines {
         if trial.sees(alloc, act)? != seen {
             return Ok(false);
         }
     }
     Ok(true)
+}
+
+/// Whether a client that boots does.
+pub fn plays<const LINES: usize>(alloc: Global, lines: [(Act, Seen); LINES]) -> Result<bool, Fail> {
+    let mut trial = Trial::new(alloc)?;
+    goes_on(&mut trial, alloc, lines)
 }

@@ -158,10 +158,17 @@ fn activities_without_an_entry(rt: HostRuntime) -> Result<(), Fail> {
     Ok(())
 }
 
-const COMES: Line = Line::Take(CALL);
+static COMES: [Line; 1] = [Line::Take(CALL)];
 
-/// 64 calls come.
-static FILLED: [Line; 64] = [COMES; 64];
+/// Whether 64 calls come.
+fn is_filled(alloc: Global, server: &mut ServerMachine) -> Result<bool, Fail> {
+    for _ in 0..64 {
+        if first_other(alloc, server, &COMES)?.is_some() {
+            return Ok(false);
+        }
+    }
+    Ok(true)
+}
 
 /// Then there is no room until a worker takes one of them.
 static FULL: [Line; 4] = [
@@ -174,7 +181,7 @@ static FULL: [Line; 4] = [
 #[test]
 fn at_most_64_packets_are_ready(rt: HostRuntime) -> Result<(), Fail> {
     let mut server = booted(rt.alloc())?;
-    assert!(rt; first_other(rt.alloc(), &mut server, &FILLED)?.is_none());
+    assert!(rt; is_filled(rt.alloc(), &mut server)?);
     assert!(rt; first_other(rt.alloc(), &mut server, &FULL)?.is_none());
     Ok(())
 }

@@ -9,6 +9,7 @@ use Line::{Export, Idle, NoExport, NoRestart, One, Restart, Take, Withdraw};
 use binder::ExportFault;
 use call_rules::Did;
 use call_rules::Unfit::Same;
+use replay_server::ServerMachine;
 use rpc_header::Kind;
 use std::alloc::Global;
 use std::test::Fail;
@@ -139,13 +140,16 @@ static RESTARTED: [Line; 9] = [
     One(Did::Runs, Run(0, false, 0)),
 ];
 
-/// Whether the server is as booted when it restarts after these lines.
+/// Whether the server is as booted when it restarts.
+fn restarts_as_booted(alloc: Global, server: &mut ServerMachine) -> Result<bool, Fail> {
+    Ok(first_other(alloc, server, &RESTARTED)?.is_none())
+}
+
+/// Whether it is so after these lines.
 fn forgets(alloc: Global, lines: &[Line]) -> Result<bool, Fail> {
     let mut server = booted(alloc)?;
-    if first_other(alloc, &mut server, lines)?.is_some() {
-        return Ok(false);
-    }
-    Ok(first_other(alloc, &mut server, &RESTARTED)?.is_none())
+    let other = first_other(alloc, &mut server, lines)?;
+    Ok(other.is_none() && restarts_as_booted(alloc, &mut server)?)
 }
 
 /// After how many lines a restart leaves something of them.
