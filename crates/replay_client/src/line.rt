@@ -374,7 +374,7 @@ impl ClientLine {
     }
 }
 
-/// Keeps a piece of a reply behind those that have come, where there is room for the longest reply, so that none
+/// Keeps a piece of a reply behind those that have come. It makes room for the longest reply first, so that no piece
 /// moves later.
 fn keep(kept: &mut Vec<u8>, piece: &[u8]) -> Result<(), AllocError>
     ensures added { OnOk result (kept.new.items ≡ kept.old.items ++ piece.now) }

@@ -1,4 +1,4 @@
--- What lies in a buffer whose pieces are gathered.
+-- The bytes that are gathered at the head of a buffer.
 use Rattle.std.specs.Prelude.{ℕ, List, take}
 use Rattle.replay_server.specs.declared.texts.Gathering.{Gathering}
 use Rattle.replay_server.specs.declared.texts.Whole.{Whole}

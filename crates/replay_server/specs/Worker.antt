@@ -33,11 +33,11 @@ abbrev pub worker_of : Option Packet → Stage → rules.Worker
 worker_of None s = rules.Resting
 worker_of (Some p) s = worker_at p s
 
--- a packet's piece is full, unless it is the last
+-- a packet's piece is full, or the last
 abbrev pub IsFullPiece : Packet → Type 0
 IsFullPiece p = IsTrue (not p.header.last) → length p.payload ≡ PIECE
 
--- what a worker has taken in hand to add its packet's piece to may be added to
+-- where a worker has gathered pieces in hand, its packet's piece may be added to them
 abbrev pub CanAdd : rules.Worker → Type 0
 CanAdd (rules.Took p) = IsFullPiece p
 CanAdd _ = ⊤

@@ -21,7 +21,7 @@ pub enum Arguments {
 pub enum Stage {
     /// It has seen this of the entry when it claimed the packet.
     Claimed(Seen),
-    /// It has what is gathered of the call in hand; its packet is a Call.
+    /// It has what is gathered of the call in hand, and its packet's piece is full or the last.
     Took,
     /// The entry runs the call, whose body is to run.
     Admitted(Arguments),

@@ -1,5 +1,5 @@
 //! The steps of workers that hold a packet: for what a worker is to do next, and the entry of its packet's activity,
-//! what it did. Each function is the rows of its name.
+//! what it did. Each function is the rows of its name; `on_piece` is those of `on_took` for an entry that a worker fills.
 
 ghost use Rattle.std.specs.Prelude.{◌≡◌, length, IfOk, OnOk};
 ghost use Rattle.fragments.specs.declared.limits.TheConstants.{PIECE};
@@ -157,7 +157,8 @@ fn on_took(alloc: Global, carrier: &Packet, entry: &mut Entry) -> Result<Step, A
     }
 }
 
-/// The last piece makes the call whole. Another that is due, or that was gathered before, is acknowledged.
+/// The piece that is due makes the call whole if it is the last, and is acknowledged else, as is one that was gathered
+/// before. One that isn't due yet is dropped.
 fn on_piece(
     alloc: Global,
     carrier: &Packet,

@@ -1,5 +1,5 @@
-//! Long texts that the server keeps: what has come of a call's arguments, and a reply. Each is at most as long as
-//! its pieces can be.
+//! Long texts that the server keeps: what has come of a call's arguments, the arguments whole, and a reply. Each is at
+//! most as long as its pieces can be.
 
 ghost use Rattle.std.specs.Prelude.{◌≡◌, ◌≤◌, ◌*◌, length, IfOk};
 ghost use Rattle.fragments.specs.declared.limits.TheConstants.{LONG, PIECE};
@@ -7,8 +7,8 @@ ghost use Rattle.fragments.specs.declared.limits.TheConstants.{LONG, PIECE};
 use fragments::{Gathered, LONG};
 use std::alloc::{AllocError, Global};
 
-/// The pieces of a call's arguments that have come, joined. Each is full: with the last piece, which may be short, the
-/// arguments are whole.
+/// The pieces of a call's arguments that have come, joined. Each is full, since with the last, which alone may be short,
+/// the arguments are whole.
 #[derive(Drop)]
 pub struct Gathering {
     /// A buffer of the greatest length. The pieces stand at its head.

@@ -17,7 +17,8 @@ use std::marker::Model;
 use std::mem;
 
 /// One worker. It is idle, or it holds the packet that it claimed, its carrier, which stays where it is until it is
-/// given back.
+/// given back. Where it has gathered pieces in hand, the carrier's piece may be added to them; a stage that stands in
+/// for another is `Fetched`, which asks nothing of the carrier.
 #[derive(Drop)]
 pub struct Worker {
     carrier: Option<Packet>,

@@ -150,7 +150,7 @@ fn comes_to(trial: &mut Trial, alloc: Global, at: At) -> Result<(), Fail> {
     Ok(())
 }
 
-/// The way to a state, which is as long as `steps_to` says.
+/// The acts on the way to a state: the first of them lead there, as many as `steps_to` says.
 fn way_to(at: At) -> [Act; 5] {
     [
         if at == At::Binding {

@@ -170,7 +170,7 @@ fn is_filled(alloc: Global, server: &mut ServerMachine) -> Result<bool, Fail> {
     Ok(true)
 }
 
-/// Then there is no room until a worker takes one of them.
+/// Behind 64 calls there is no room until a worker takes one of them.
 static FULL: [Line; 4] = [
     Line::NoRoom(CALL),
     Line::One(Did::Claims, Added::Nothing),

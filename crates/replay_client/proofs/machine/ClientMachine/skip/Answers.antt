@@ -1,4 +1,4 @@
-use Rattle.std.proofs.Common.{◌≡◌, ℕ, ◌-◌, ◌≤◌, length, None, get_or, set, ap, sym, ◌∙◌, arith, subst, ◌+◌, ◌<◌, [], ◌∷◌, Option, Some, true, false}
+use Rattle.std.proofs.Common.{◌≡◌, ℕ, ◌-◌, ◌≤◌, length, None, get_or, set, ap, sym, ◌∙◌, arith, ◌+◌, ◌<◌, [], ◌∷◌, Option, Some, true, false}
 use Rattle.std.proofs.lemmas.Bool.{cond-true, cond-false, le-leb, lt-leb}
 use Rattle.rpc_header.specs.declared.Activity.{Activity}
 use Rattle.call_rules.specs.Caller.{is_idle}
